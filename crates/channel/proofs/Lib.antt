@@ -1,0 +1,5 @@
+pub mod Says
+pub mod Budget
+pub mod Relaxations
+pub mod Validity
+pub mod Labels
