@@ -1,4 +1,4 @@
--- The variables of a reply are at least 1, so that row 7's missing variables are a matter of counting; and the cut theorem with rows 7 and 8. Assumes nothing.
+-- The variables of a reply are at least 1, so that row 7's missing variables are a matter of counting. Assumes nothing.
 use mathlib.Core.Path.{_≡_, refl, sym, ap, subst, _∙_}
 use mathlib.Core.Bool.{Bool, true, false, cond, not, _&&_, _||_, false≢true, true≢false}
 use mathlib.Core.List.{List, [], _∷_, _++_, map}
@@ -6,12 +6,11 @@ use mathlib.Core.Logic.{_⊎_, inl, inr}
 use Prim.Native.Nat.{ℕ, zero, suc, _+_, _-_, _*_, _≤_, _<_}
 use native.Mathlib.Omega.{arith}
 use lib.Dec.{eqb, leb}
-use lib.ListN.{length, take}
+use lib.ListN.{length}
 use borrow.Author.Tests.{eqb-true, leb-true, le-leb}
 use Rattle.dimacs.specs.Reply.{same, every, digit, Word, stop, lit, isNumber, decimal, nought, isLiteral, literal, unsigned, negative, Status, satisfiable, unsatisfiable, unknown, Line, bad, quiet, says, gives, lines, lineOf, firstBad, statuses, literals, closed, Parsed, Refused6, Unsat, Unsure, Sat, settle, placed, judged, answerOf, accepts}
-use Rattle.dimacs.specs.Model.{before, variables, firstWrong, allThere, Reply, Refused, replied, replyOf}
-use Rattle.dimacs.specs.Clause.{Clause}
-use Rattle.dimacs.proofs.Cut.{both, Refuses, cut}
+use Rattle.dimacs.specs.Model.{before, variables, firstWrong, allThere}
+use Rattle.dimacs.proofs.Cut.{both}
 use Rattle.dimacs.proofs.Words.{IsLine, empty, c-alone, c-blank, s-line, v-line, line-shows}
 use Rattle.dimacs.proofs.Missing.{missing}
 
@@ -122,12 +121,3 @@ reply-pos t xs h =
 -- row 7 by counting
 pub reply-missing : (t : List ℕ) (xs : List Word) (n : ℕ) → answerOf t ≡ Sat xs → firstWrong n [] 1 (variables (before xs)) ≡ 0 → allThere n (variables (before xs)) ≡ leb n (length (variables (before xs)))
 reply-missing t xs n h k = missing n (variables (before xs)) (reply-pos t xs h) k
-
--- the cut theorem, rows 7 and 8 with it: of a text that row 6 does not refuse, the first n bytes are refused by row 6 or give the same reply
-pub cut-reply : (top : ℕ) (cs : List Clause) (t : List ℕ) (n : ℕ) → accepts (answerOf t) ≡ true → ((k : ℕ) × (replyOf top cs (take n t) ≡ Refused 6 k)) ⊎ (replyOf top cs (take n t) ≡ replyOf top cs t)
-unfolding replyOf replied
-cut-reply top cs t n h = go (cut t n (answerOf t) refl h)
-  where
-    go : Refuses (answerOf (take n t)) ⊎ (answerOf (take n t) ≡ answerOf t) → ((k : ℕ) × (replied top cs (answerOf (take n t)) ≡ Refused 6 k)) ⊎ (replied top cs (answerOf (take n t)) ≡ replied top cs (answerOf t))
-    go (inl r) = inl (r .0, ap (replied top cs) (r .1))
-    go (inr e) = inr (ap (replied top cs) e)

@@ -1,25 +1,24 @@
 -- The reader, exactly. Assumes nothing.
 use mathlib.Core.Path.{_≡_, refl, ap, sym, subst, _∙_}
-use mathlib.Core.List.{List, [], _∷_}
-use mathlib.Core.Logic.{_⊎_, inl, inr, _↔_}
-use Prim.Native.Nat.{ℕ, zero, suc, _+_, _-_, _*_, _≤_, _<_}
+use mathlib.Core.List.{List}
+use mathlib.Core.Logic.{inl, inr, _↔_}
+use Prim.Native.Nat.{ℕ, _+_, _-_, _*_, _≤_, _<_}
 use native.Mathlib.Omega.{arith}
-use native.Mathlib.Nat.{zero-add, add-sub-cancel-left}
-use lib.ListN.{length, getD, take, drop}
-use lib.Seq.{getD-take, getD-drop, take-at}
-use Rattle.refusals.specs.Table.{Rows, row, _or_, nowhere, FirstBroken, Refuses, Passes, Sound, Searched, line, before}
-use Rattle.refusals.proofs.Laws.{searched-all, searched-broken, refuses-left, refuses-right, refuses-row, passes-row, passes-or, behind-row, behind-or, sound-row, sound-front, nowhere-one, broken-one, decided-one}
+use native.Mathlib.Nat.{add-sub-cancel-left}
+use lib.ListN.{length, take, drop}
+use lib.Seq.{take-at}
+use Rattle.refusals.specs.Table.{row, nowhere, Refuses, Passes, Sound, Searched, before}
+use Rattle.refusals.proofs.Laws.{searched-all, searched-broken, refuses-left, refuses-right, refuses-row, passes-row, behind-row, behind-or, sound-row, sound-front, nowhere-one, broken-one, decided-one}
 use Rattle.jobfile.specs.declared.Read.{Read}
 use Rattle.jobfile.specs.declared.Read.the-variants as variant
 use Rattle.channel.specs.Limits.{Limits}
 use Rattle.channel.specs.Channel.{Job, T, M}
-use Rattle.channel.specs.Valid.{ConnectionRule, Valid}
+use Rattle.channel.specs.Valid.{Valid}
 use Rattle.jobfile.specs.File.{encode, connectionSection}
-use Rattle.jobfile.specs.Rows.{Bytes, trailerAt, twoAt, connectionsAt, nOf, tOf, mOf, kOf, start, trackRead, connectionRead, FineAt, TrackKept, ConnectionKept, Placed, fileRows, jobOf, tab}
+use Rattle.jobfile.specs.Rows.{Bytes, trailerAt, twoAt, connectionsAt, nOf, tOf, mOf, kOf, start, TrackKept, ConnectionKept, Placed, fileRows, jobOf}
 use Rattle.jobfile.specs.Reads.{FileOf, Numbers, Reads, Part, Hands, Facts}
-use Rattle.jobfile.proofs.Laws.{part-length}
-use Rattle.jobfile.proofs.Decode.{tab-length, tab-at, job-valid, job-file, room, connections-are, connections-long}
-use Rattle.jobfile.proofs.Encode.{tells, n-is, t-is, m-is, k-is, file-facts, encode-one}
+use Rattle.jobfile.proofs.Decode.{tab-length, job-valid, job-file, room, connections-are, connections-long}
+use Rattle.jobfile.proofs.Encode.{tells, n-is, t-is, m-is, k-is, file-facts}
 
 -- a file in whose bytes all is well is that of a valid job, the one that its bytes tell
 pub facts-file : (f : List ℕ) → Facts f → Bytes f → FileOf f (jobOf f)

@@ -2,7 +2,7 @@
 use mathlib.Core.Path.{_≡_}
 use mathlib.Core.List.{List, []}
 use Prim.Native.Nat.{ℕ, _*_, _+_, _-_, _≤_, _<_}
-use lib.ListN.{length, getD, take, drop}
+use lib.ListN.{length, getD}
 use Rattle.jobfile.specs.declared.Read.{Read}
 use Rattle.jobfile.specs.declared.Read.the-variants as variant
 use Rattle.refusals.specs.Table.{Refuses}

@@ -2,11 +2,12 @@
 // Document 01, "The job file", and rows 1 to 5 of "Replies by number". specs/File.antt has the encoding, specs/Rows.antt the rows, specs/Reads.antt the answers.
 ghost use mathlib.Core.Path.{_≡_};
 ghost use Prim.Native.Nat.{_+_, _-_, _*_, _≤_, _<_};
-ghost use lib.ListN.{length, getD, take, drop};
+ghost use lib.ListN.{length, take, drop};
 ghost use Rattle.refusals.specs.Table.{Searched};
 ghost use Rattle.refusals.specs.Tells.{Tells};
 ghost use Rattle.channel.specs.Limits.{mostTracks, Limits};
 ghost use Rattle.channel.specs.Valid.{Rising, ConnectionRule};
+ghost use Rattle.jobfile.specs.declared.Read.the-variants as variant;
 ghost use Rattle.jobfile.specs.Rows.{twoAt, connectionRead, FineAt, TrackKept, ConnectionKept, Placed};
 ghost use Rattle.jobfile.specs.Reads.{Reads, Hands, Facts, Offsets};
 use channel::MOST_CONNECTIONS;
@@ -194,15 +195,19 @@ fn is_placed(back1: usize, back2: usize, e: usize, m: usize) -> bool
     true
 }
 
+// Refused by a row of the table, at a place.
+fn refused(number: u8, place: usize) -> Read
+    ensures { λ r. ⌜ r ≡ variant.Refused number place ⌝ }
+{
+    Read::Refused { number, place }
+}
+
 // The answer, for every byte string.
 pub fn read_job(f: &[u8]) -> Read
     ensures { λ r. ⌜ Reads (now (f .entry)) r ⌝ }
 {
     if f.len() < TRAILER {
-        return Read::Refused {
-            number: 1,
-            place: 0,
-        };
+        return refused(1, 0);
     }
     let e = f.len() - TRAILER;
     let n = f[e + 4];
@@ -211,31 +216,19 @@ pub fn read_job(f: &[u8]) -> Read
     let k = f[e + 7];
     let count = wide(m);
     if !within_limits(n, t, count, k) {
-        return Read::Refused {
-            number: 2,
-            place: 0,
-        };
+        return refused(2, 0);
     }
     if !is_placed(word_at(f, e), word_at(f, e + 2), e, count) {
-        return Read::Refused {
-            number: 3,
-            place: 0,
-        };
+        return refused(3, 0);
     }
     let start = e - CONNECTION * count;
     let bad = bad_track(f, n, wide(t), start);
     if bad != 0 {
-        return Read::Refused {
-            number: 4,
-            place: bad,
-        };
+        return refused(4, bad);
     }
     let wrong = bad_connection(f, n, count, start);
     if wrong != 0 {
-        return Read::Refused {
-            number: 5,
-            place: wrong,
-        };
+        return refused(5, wrong);
     }
     Read::Job {
         columns: n,

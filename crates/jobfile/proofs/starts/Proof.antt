@@ -6,7 +6,7 @@ use native.Mathlib.Omega.{arith}
 use lib.ListN.{length, getD, length-set}
 use borrow.Author.Needs.{needs}
 use Rattle.channel.specs.Limits.{mostTracks}
-use Rattle.jobfile.specs.Rows.{tOf, start}
+use Rattle.jobfile.specs.Rows.{start}
 use Rattle.jobfile.proofs.Laws.{start-next}
 use Rattle.jobfile.proofs.Places.{record-within, offsets-next}
 use Rattle.jobfile.proofs.starts.Statement.{statement}

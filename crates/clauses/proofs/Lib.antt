@@ -1,0 +1,9 @@
+pub mod Each
+pub mod Bits
+pub mod Width
+pub mod Spelling
+pub mod Says
+pub mod Models
+pub mod Same
+pub mod Groups
+pub mod Order

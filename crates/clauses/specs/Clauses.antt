@@ -1,0 +1,150 @@
+-- Document 01, "Clause lines": the clause list of a job, its models, and the codes of a routing as an assignment. Assumes nothing: these are definitions.
+use mathlib.Core.Path.{_≡_}
+use mathlib.Core.Bool.{Bool, true, false, _&&_, not, cond}
+use mathlib.Core.List.{List, [], _∷_, _++_, map}
+use Prim.Native.Nat.{ℕ, zero, suc, _+_, _*_, _-_, _/_, _%_, _^_, _≤_}
+use lib.Dec.{ltb, leb, eqb}
+use lib.ListN.{length, getD, drop}
+use Rattle.channel.specs.Channel.{Job, T, M, Barred, Collide}
+use Rattle.channel.specs.Label.{label, code, codeOf, labelOf}
+use Rattle.dimacs.specs.Clause.{Literal, Clause, valueIn, makesAll}
+
+-- what the clauses rest on: how many tracks and connections, which codes are barred for a connection, and on which codes two connections collide.
+-- Connections are counted from 0, tracks are given by their codes
+pub record Grid : Type 0 where
+  pub tracks : ℕ
+  pub connections : ℕ
+  pub barred : ℕ → ℕ → Bool
+  pub collide : ℕ → ℕ → ℕ → Bool
+
+-- the label of a code, and the code of a label, as numbers
+abbrev pub labelWith : ℕ → ℕ
+labelWith c = labelOf (code c) .0
+
+abbrev pub codeWith : ℕ → ℕ
+codeWith l = codeOf (label l) .0
+
+-- the grid of a job: clauses carry codes, a job has labels
+abbrev pub gridOf : Job → Grid
+gridOf j = record { tracks = T j; connections = M j; barred = λ i c. Barred j i (labelWith c); collide = λ h i c. Collide j h i (labelWith c) }
+
+-- w is the least whole number with 2 ^ w ≥ t, but at least 1
+pub record Width (t w : ℕ) : Type 0 where
+  pub some : 1 ≤ w
+  pub enough : t ≤ 2 ^ w
+  pub least : (v : ℕ) → 1 ≤ v → t ≤ 2 ^ v → w ≤ v
+
+-- the first w from a start on, of so many, with t ≤ 2 ^ w
+unfoldable pub seek : ℕ → ℕ → ℕ → ℕ
+seek zero w t = w
+seek (suc more) w t = let rest = seek more (suc w) t in cond (leb t (2 ^ w)) w rest
+
+-- w for t tracks
+unfoldable pub bitsFor : ℕ → ℕ
+bitsFor t = seek t 1 t
+
+-- f 0, then f 1, and so on to f (n − 1)
+unfoldable pub each : {A : Type 0} → ℕ → (ℕ → List A) → List A
+each zero f = []
+each (suc n) f = each n f ++ f n
+
+-- x if b, else nothing
+unfoldable pub only : {A : Type 0} → Bool → A → List A
+only true x = x ∷ []
+only false x = []
+
+-- the lowest bit is 1
+abbrev pub odd : ℕ → Bool
+odd c = eqb (c % 2) 1
+
+abbrev pub digit : Bool → ℕ
+digit b = cond b 1 0
+
+-- the literals that forbid a code of k bits at the variables from v on, bit 1 the highest: plain where the bit is 0 and negated where it is 1
+unfoldable pub forbid : ℕ → ℕ → ℕ → Clause
+forbid zero v c = []
+forbid (suc k) v c = forbid k v (c / 2) ++ (record { variable = v + k; negated = odd c } ∷ [])
+
+-- connection i + 1 may not have the code c: bit b of its code is variable i × w + b
+unfoldable pub bar : ℕ → ℕ → ℕ → Clause
+bar w i c = forbid w (i * w + 1) c
+
+module _ (g : Grid) where
+  abbrev pub widthOf : ℕ
+  widthOf = bitsFor (g .tracks)
+
+  -- group 1: for each connection, each code from T to 2 ^ w − 1: one clause forbidding it
+  unfoldable pub beyond : List Clause
+  beyond = each (g .connections) (λ i. each (2 ^ widthOf - g .tracks) (λ k. bar widthOf i (g .tracks + k) ∷ []))
+
+  -- group 2: for each connection, each barred track: one clause forbidding its code
+  unfoldable pub bars : List Clause
+  bars = each (g .connections) (λ i. each (g .tracks) (λ c. only (g .barred i c) (bar widthOf i c)))
+
+  -- two connections, the first before the second, collide on a track that is barred for neither
+  abbrev pub meets : ℕ → ℕ → ℕ → Bool
+  meets h i c = ltb h i && (g .collide h i c && (not (g .barred h c) && not (g .barred i c)))
+
+  -- group 3: for two connections in order and each track on which they meet: one clause forbidding both codes together, the first's variables first
+  unfoldable pub pairs : List Clause
+  pairs = each (g .connections) (λ h. each (g .connections) (λ i. each (g .tracks) (λ c. only (meets h i c) (bar widthOf h c ++ bar widthOf i c))))
+
+  -- all of group 1, then all of group 2, then all of group 3
+  unfoldable pub clausesOf : List Clause
+  clausesOf = beyond ++ (bars ++ pairs)
+
+-- a job's w, and its clause list
+abbrev pub width : Job → ℕ
+width j = bitsFor (T j)
+
+abbrev pub clauses : Job → List Clause
+clauses j = clausesOf (gridOf j)
+
+-- V and C: how many variables and clauses
+abbrev pub variableCount : Job → ℕ
+variableCount j = M j * width j
+
+abbrev pub clauseCount : Job → ℕ
+clauseCount j = length (clauses j)
+
+-- a model: an assignment of V variables that makes all clauses true
+pub record ModelOf (g : Grid) (a : List Bool) : Type 0 where
+  pub many : length a ≡ g .connections * widthOf g
+  pub all : makesAll (valueIn a) (clausesOf g) ≡ true
+
+abbrev pub Model : Job → List Bool → Type 0
+Model j a = ModelOf (gridOf j) a
+
+-- the k bits of a code, bit 1 the highest
+unfoldable pub bits : ℕ → ℕ → List Bool
+bits zero c = []
+bits (suc k) c = bits k (c / 2) ++ (odd c ∷ [])
+
+-- codes one after the other, w bits each
+unfoldable pub spell : ℕ → List ℕ → List Bool
+spell w [] = []
+spell w (c ∷ q) = bits w c ++ spell w q
+
+-- the number that the first k bits of a list spell; the codes of m connections that an assignment spells, w bits each
+unfoldable pub number : ℕ → List Bool → ℕ
+number zero a = 0
+number (suc k) a = number k a * 2 + digit (getD a k false)
+
+unfoldable pub codesIn : ℕ → ℕ → List Bool → List ℕ
+codesIn w zero a = []
+codesIn w (suc m) a = number w a ∷ codesIn w m (drop w a)
+
+-- the codes of labels, and the labels of codes
+abbrev pub codes : List ℕ → List ℕ
+codes q = map codeWith q
+
+abbrev pub labels : List ℕ → List ℕ
+labels q = map labelWith q
+
+-- the assignment that a routing's labels give: their codes, w bits each
+abbrev pub spelled : Job → List ℕ → List Bool
+spelled j q = spell (width j) (codes q)
+
+-- and the labels that an assignment gives
+abbrev pub labelsIn : Job → List Bool → List ℕ
+labelsIn j a = labels (codesIn (width j) (M j) a)
