@@ -1,0 +1,238 @@
+-- The search by marks is the search by routings: a mark tells whether its segment is occupied, and by whom. Assumes nothing.
+use mathlib.Core.Path.{_≡_, refl, sym, ap, subst, _∙_}
+use mathlib.Core.Bool.{Bool, true, false, _&&_, not}
+use mathlib.Core.Logic.{⊎-elim}
+use mathlib.Core.List.{List, [], _∷_, _++_}
+use Prim.Native.Nat.{ℕ, zero, suc, _+_, _-_, _≤_, _<_}
+use native.Mathlib.Nat.{eq-or-lt-of-le, le-of-suc-le-suc, not-suc-le-zero}
+use native.Mathlib.Omega.{arith}
+use borrow.Author.Tests.{eqb-true, eqb-false, not-true, le-ltb, leb-true, le-leb}
+use lib.Dec.{eqb, leb}
+use lib.ListN.{length, getD, length-append, replicate, List·getD-append}
+use lib.Seq.{getD-append-seam}
+use Rattle.search.specs.Tree.{place}
+use Rattle.search.proofs.Settling.{and-left, and-right, and-both}
+use Rattle.search.proofs.Same.{same-place}
+use Rattle.channel.specs.Limits.{mostSegments}
+use Rattle.channel.specs.Channel.{Job, T, M, segments, occupied, anyTo, share, collide, trackAt, connectionAt, Barred, Collide}
+use Rattle.channel.specs.Valid.{Valid}
+use Rattle.channel.specs.Routing.{Legal, clash, routings}
+use Rattle.channel.proofs.Says.{snoc, or-left, or-right, or-both, apart-says, apart-is, nil-legal, more}
+use Rattle.channel.proofs.Validity.{each-at}
+use Rattle.occupancy.specs.Runs.{Run, Cell, Tabled}
+use Rattle.marks.specs.Marking.{markBytes, base, free, allFree, fill, first, last, runAt, runLong, Inside, fitsIn, takenIn, marking}
+use Rattle.marks.proofs.Laws.{all-free-says, all-free-is, fits-open, fill-length, fill-off, fill-at, zeros}
+
+-- connection h + 1 on the track labelled l occupies segment k + 1
+abbrev pub takes : Job → ℕ → ℕ → ℕ → Bool
+takes j h l k = occupied (trackAt (j .tracks) l) (connectionAt (j .connections) h) k
+
+abbrev cuts : Job → ℕ → ℕ
+cuts j l = segments (trackAt (j .tracks) l)
+
+-- the mark m is right for segment k + 1 of the track labelled l, beside the partial routing p: where it is 0 no connection of p occupies the segment, and else the one it numbers does
+pub record Owned (j : Job) (p : List ℕ) (l k m : ℕ) : Type 0 where
+  pub none : m ≡ 0 → (h : ℕ) → h < length p → getD p h 0 ≡ l → takes j h l k ≡ false
+  pub owner : (h : ℕ) → m ≡ suc h → (h < length p) × (getD p h 0 ≡ l) × (takes j h l k ≡ true)
+
+-- the state is that of the legal partial routing p
+pub record Kept (j : Job) (p : List ℕ) (s : ℕ × List ℕ) : Type 0 where
+  pub placed : s .0 ≡ length p
+  pub long : length (s .1) ≡ markBytes
+  pub legal : Legal j p
+  pub marks : (l k : ℕ) → 1 ≤ l → l ≤ T j → k < segments (trackAt (j .tracks) l) → Owned j p l k (getD (s .1) (base l + k) 0)
+
+tf : (b : Bool) → b ≡ true → b ≡ false → ⊥
+tf b e f = let z : _≡_ {A = ℕ} 0 1 = cc in omega arith
+
+iff : (a b : Bool) → (a ≡ true → b ≡ true) → (b ≡ true → a ≡ true) → a ≡ b
+iff true b f g = sym (f refl)
+iff false true f g = g refl
+iff false false f g = refl
+
+false-by : (b : Bool) → (b ≡ true → ⊥) → b ≡ false
+false-by true h = absurd (h refl)
+false-by false h = refl
+
+any-says : (f : ℕ → Bool) (n : ℕ) → anyTo f n ≡ false → (k : ℕ) → k < n → f k ≡ false
+unfolding anyTo
+any-says f zero e k h = absurd (not-suc-le-zero h)
+any-says f (suc n) e k h =
+    ⊎-elim
+    (λ (q : k ≡ n). ap f q ∙ or-right (anyTo f n) _ e)
+    (λ (q : k < n). any-says f n (or-left (anyTo f n) _ e) k q)
+    (eq-or-lt-of-le (le-of-suc-le-suc h))
+
+any-is : (f : ℕ → Bool) (n : ℕ) → ((k : ℕ) → k < n → f k ≡ false) → anyTo f n ≡ false
+unfolding anyTo
+any-is f zero h = refl
+any-is f (suc n) h = or-both (anyTo f n) _ (any-is f n (λ k l. h k (omega arith))) (h n (omega arith))
+
+-- what collides, by segments
+apart-at : (j : Job) (h i l k : ℕ) → Collide j h i l ≡ false → k < segments (trackAt (j .tracks) l) → takes j h l k ≡ true → takes j i l k ≡ true → ⊥
+unfolding collide share
+apart-at j h i l k e n a b = tf _ (and-both (takes j h l k) _ a b) (any-says _ _ e k n)
+
+apart-by : (j : Job) (h i l : ℕ) → ((k : ℕ) → k < segments (trackAt (j .tracks) l) → takes j h l k ≡ true → takes j i l k ≡ true → ⊥) → Collide j h i l ≡ false
+unfolding collide share
+apart-by j h i l f = any-is _ _ (λ k n. false-by _ (λ y. f k n (and-left (takes j h l k) _ y) (and-right (takes j h l k) _ y)))
+
+module _ (j : Job) (v : Valid j) (runs : List ℕ) (t : Tabled j runs) where
+  -- the table's cell, by the label
+  cell : (i l : ℕ) → i < M j → 1 ≤ l → l ≤ T j → Cell (j .limit) (trackAt (j .tracks) l) (connectionAt (j .connections) i) (first runs i l) (last runs i l)
+  cell i l h a b =
+      let e : l - 1 + 1 ≡ l = omega arith in
+      subst (λ (x : ℕ). Cell (j .limit) (trackAt (j .tracks) x) (connectionAt (j .connections) i) (first runs i l) (last runs i l)) e (t .cells i (l - 1) h (omega arith))
+
+  few : (l : ℕ) → 1 ≤ l → l ≤ T j → segments (trackAt (j .tracks) l) ≤ mostSegments
+  unfolding trackAt
+  few l a b = (each-at _ (j .tracks) _ (v .tracks) (l - 1) (omega arith)) .few
+
+  -- a cell that is not shut is a run
+  run : (i l : ℕ) → i < M j → 1 ≤ l → l ≤ T j → first runs i l ≤ last runs i l → Run (trackAt (j .tracks) l) (connectionAt (j .connections) i) (first runs i l) (last runs i l)
+  run i l h a b q = let c = cell i l h a b in c .run (c .shut ∙ le-ltb (last runs i l) (first runs i l) q)
+
+  pub inside : (i l : ℕ) → i < M j → 1 ≤ l → l ≤ T j → Inside runs i l
+  inside i l h a b =
+      let g = v .limits in
+      record {
+        connection = (let x = g .m-high in omega arith);
+        label-low = a;
+        label-high = (let x = g .t-high in omega arith);
+        short = λ q. (let x = (run i l h a b q) .inside in let y = few l a b in omega arith);
+      }
+
+  -- the marks' test is that of the routings
+  pub kept-ok : (p : List ℕ) (s : ℕ × List ℕ) (l : ℕ) → Kept j p s → length p < M j → 1 ≤ l → l ≤ T j → (marking runs (T j)) .ok s l ≡ (routings j) .ok p l
+  unfolding marking fitsIn routings
+  kept-ok p s l k m a b =
+      let at = k .placed in
+      let c = cell (s .0) l (omega arith) a b in
+      (λ i. not (sym (c .shut) i) && allFree (s .1) (runAt runs (s .0) l) (runLong runs (s .0) l))
+      ∙ go (Barred j (s .0) l) refl
+      ∙ (λ i. not (Barred j (at i) l) && not (clash j (at i) l 0 p))
+    where
+      free-of : (Barred j (s .0) l ≡ false) → allFree (s .1) (runAt runs (s .0) l) (runLong runs (s .0) l) ≡ true → clash j (s .0) l 0 p ≡ false
+      free-of o e =
+          let at = k .placed in
+          let c = cell (s .0) l (omega arith) a b in
+          let r = c .run o in
+          apart-is j (s .0) l 0 p (λ h n y.
+          let z : 0 + h ≡ h = omega arith in
+          ap (λ (x : ℕ). Collide j x (s .0) l) z ∙ apart-by j h (s .0) l (λ g w u q.
+          let f = sym (r .is g w) ∙ q in
+          let lo = leb-true (first runs (s .0) l) g (and-left (leb (first runs (s .0) l) g) _ f) in
+          let hi = leb-true g (last runs (s .0) l) (and-right (leb (first runs (s .0) l) g) _ f) in
+          let d : runAt runs (s .0) l + (g - first runs (s .0) l) ≡ base l + g = omega arith in
+          let fr = all-free-says (s .1) (runAt runs (s .0) l) (runLong runs (s .0) l) e (g - first runs (s .0) l) (omega arith) in
+          let zero-mark = eqb-true _ 0 (ap (λ (x : ℕ). free (getD (s .1) x 0)) (sym d) ∙ fr) in
+          tf _ u ((k .marks l g a b w) .none zero-mark h n y)))
+
+      of-clash : (Barred j (s .0) l ≡ false) → clash j (s .0) l 0 p ≡ false → allFree (s .1) (runAt runs (s .0) l) (runLong runs (s .0) l) ≡ true
+      of-clash o e =
+          let at = k .placed in
+          let c = cell (s .0) l (omega arith) a b in
+          let r = c .run o in
+          let ins = r .inside in
+          all-free-is (s .1) (runAt runs (s .0) l) (runLong runs (s .0) l) (λ d n.
+          let g : ℕ = first runs (s .0) l + d in
+          let w : g < cuts j l = omega arith in
+          let lo = le-leb (first runs (s .0) l) g (omega arith) in
+          let hi = le-leb g (last runs (s .0) l) (omega arith) in
+          let tk = r .is g w ∙ and-both (leb (first runs (s .0) l) g) _ lo hi in
+          let q : runAt runs (s .0) l + d ≡ base l + g = omega arith in
+          ap (λ (x : ℕ). free (getD (s .1) x 0)) q ∙ mark-free (getD (s .1) (base l + g) 0) g w (k .marks l g a b w) tk e)
+        where
+          mark-free : (mk g : ℕ) → g < cuts j l → Owned j p l g mk → takes j (s .0) l g ≡ true → clash j (s .0) l 0 p ≡ false → free mk ≡ true
+          mark-free zero g w o tk e = refl
+          mark-free (suc h) g w o tk e =
+              let f = o .owner h refl in
+              let z : h ≡ 0 + h = omega arith in
+              absurd (apart-at j h (s .0) l g (ap (λ (x : ℕ). Collide j x (s .0) l) z ∙ apart-says j (s .0) l 0 p e h (f .0) (f .1)) w (f .2) tk)
+
+      go : (x : Bool) → Barred j (s .0) l ≡ x → (not (Barred j (s .0) l) && allFree (s .1) (runAt runs (s .0) l) (runLong runs (s .0) l)) ≡ (not (Barred j (s .0) l) && not (clash j (s .0) l 0 p))
+      go true e = (λ i. not (e i) && allFree (s .1) (runAt runs (s .0) l) (runLong runs (s .0) l)) ∙ (λ i. not (sym e i) && not (clash j (s .0) l 0 p))
+      go false e = ap (λ x. not (Barred j (s .0) l) && x) (iff _ (not (clash j (s .0) l 0 p)) (λ f. ap not (free-of e f)) (λ f. of-clash e (not-true _ f)))
+
+  -- one mark, when connection s .0 + 1 is placed on l
+  owned-next : (p : List ℕ) (s : ℕ × List ℕ) (l m g : ℕ) → Kept j p s → s .0 < M j → first runs (s .0) l ≤ last runs (s .0) l → 1 ≤ l → l ≤ T j → 1 ≤ m → m ≤ T j → g < segments (trackAt (j .tracks) m) → Owned j (p ++ (l ∷ [])) m g (getD (fill (s .0 + 1) (s .1) (runAt runs (s .0) l) (runLong runs (s .0) l)) (base m + g) 0)
+  owned-next p s l m g k i q a b c d n = go (eqb l m) refl
+    where
+      r : Run (trackAt (j .tracks) l) (connectionAt (j .connections) (s .0)) (first runs (s .0) l) (last runs (s .0) l)
+      r = run (s .0) l i a b q
+
+      was : Owned j p m g (getD (s .1) (base m + g) 0)
+      was = k .marks m g c d n
+
+      longer : length (p ++ (l ∷ [])) ≡ length p + 1
+      longer = length-append p (l ∷ [])
+
+      -- as it was, and the new connection does not have the segment
+      keep : (x : ℕ) → x ≡ getD (s .1) (base m + g) 0 → (l ≡ m → takes j (s .0) m g ≡ false) → Owned j (p ++ (l ∷ [])) m g x
+      keep x e f =
+          record {
+            none = λ z h w. snoc (λ h u. u ≡ m → takes j h m g ≡ false) p l (λ h w y. was .none (sym e ∙ z) h w y) (λ q. ap (λ (x : ℕ). takes j x m g) (sym (k .placed)) ∙ f q) h w;
+            owner = λ h z. let o = was .owner h (sym e ∙ z) in let x = o .0 in let y = longer in (omega arith, List·getD-append p (l ∷ []) 0 h (o .0) ∙ o .1, o .2);
+          }
+
+      take : (x : ℕ) → x ≡ s .0 + 1 → l ≡ m → takes j (s .0) m g ≡ true → Owned j (p ++ (l ∷ [])) m g x
+      take x e q f =
+          record {
+            none = λ z. absurd (omega arith);
+            owner = λ h z. (let y = longer in let x = k .placed in let h′ : h ≡ length p = omega arith in let h″ : h ≡ s .0 = omega arith in
+                (omega arith, ap (λ (x : ℕ). getD (p ++ (l ∷ [])) x 0) h′ ∙ getD-append-seam p l [] 0 ∙ q, ap (λ (x : ℕ). takes j x m g) h″ ∙ f));
+          }
+
+      go : (x : Bool) → eqb l m ≡ x → Owned j (p ++ (l ∷ [])) m g (getD (fill (s .0 + 1) (s .1) (runAt runs (s .0) l) (runLong runs (s .0) l)) (base m + g) 0)
+      go false e =
+          let ne = eqb-false l m e in
+          let ins = r .inside in
+          let fl = few l a b in
+          let fm = few m c d in
+          keep _ (fill-off (s .0 + 1) (s .1) (runAt runs (s .0) l) (runLong runs (s .0) l) (base m + g) (λ h w z. ne (omega arith))) (λ z. absurd (ne z))
+      go true e = on (eqb-true l m e) (takes j (s .0) l g) refl
+        where
+          on : l ≡ m → (x : Bool) → takes j (s .0) l g ≡ x → Owned j (p ++ (l ∷ [])) m g (getD (fill (s .0 + 1) (s .1) (runAt runs (s .0) l) (runLong runs (s .0) l)) (base m + g) 0)
+          on z true y =
+              let n′ : g < cuts j l = subst (λ (u : ℕ). g < cuts j u) (sym z) n in
+              let f = sym (r .is g n′) ∙ y in
+              let lo = leb-true (first runs (s .0) l) g (and-left (leb (first runs (s .0) l) g) _ f) in
+              let hi = leb-true g (last runs (s .0) l) (and-right (leb (first runs (s .0) l) g) _ f) in
+              let at : base m + g ≡ runAt runs (s .0) l + (g - first runs (s .0) l) = omega arith in
+              let lg = k .long in
+              let th = v .limits .t-high in
+              let ins = r .inside in
+              let fl = few l a b in
+              take _ (ap (λ (u : ℕ). getD (fill (s .0 + 1) (s .1) (runAt runs (s .0) l) (runLong runs (s .0) l)) u 0) at ∙ fill-at (s .0 + 1) (s .1) (runAt runs (s .0) l) (runLong runs (s .0) l) (g - first runs (s .0) l) (omega arith) (omega arith)) z (ap (λ (u : ℕ). takes j (s .0) u g) (sym z) ∙ y)
+          on z false y =
+              let n′ : g < cuts j l = subst (λ (u : ℕ). g < cuts j u) (sym z) n in
+              keep _ (fill-off (s .0 + 1) (s .1) (runAt runs (s .0) l) (runLong runs (s .0) l) (base m + g) (λ h w u.
+              let lo = le-leb (first runs (s .0) l) g (omega arith) in
+              let hi = le-leb g (last runs (s .0) l) (omega arith) in
+              tf _ (r .is g n′ ∙ and-both (leb (first runs (s .0) l) g) _ lo hi) y)) (λ z. ap (λ (u : ℕ). takes j (s .0) u g) (sym z) ∙ y)
+
+  -- the state after a label that fits
+  pub kept-next : (p : List ℕ) (s : ℕ × List ℕ) (l : ℕ) → Kept j p s → length p < M j → 1 ≤ l → l ≤ T j → (marking runs (T j)) .ok s l ≡ true → Kept j ((routings j) .next p l) ((marking runs (T j)) .next s l)
+  unfolding marking takenIn routings
+  kept-next p s l k m a b e =
+      let at = k .placed in
+      let y = length-append p (l ∷ []) in
+      record {
+        placed = omega arith;
+        long = fill-length (s .0 + 1) (s .1) (runAt runs (s .0) l) (runLong runs (s .0) l) ∙ k .long;
+        legal = more j p l (k .legal) m a b (sym (kept-ok p s l k m a b) ∙ e);
+        marks = λ u g c d n. owned-next p s l u g k (omega arith) (fits-open runs (s .0) (s .1) l e) a b c d n;
+      }
+
+  -- the state at first
+  pub kept-nil : Kept j [] (0, replicate markBytes 0)
+  kept-nil = record { placed = refl; long = refl; legal = nil-legal j; marks = λ l k a b n. record { none = λ z h w. absurd (not-suc-le-zero w); owner = λ h z. absurd (let y = zeros markBytes (base l + k) in omega arith) } }
+
+  -- the search by marks is the search by routings
+  pub by-marking : place (marking runs (T j)) (M j) (0, replicate markBytes 0) ≡ place (routings j) (M j) []
+  unfolding marking routings
+  by-marking =
+      same-place (marking runs (T j)) (routings j) (λ r s p. Kept j p s × (length p + r ≡ M j)) refl
+      (λ r s p l h a b. let e = h .1 in kept-ok p s l (h .0) (omega arith) a b)
+      (λ r s p l h a b o. let e = h .1 in let y = length-append p (l ∷ []) in (kept-next p s l (h .0) (omega arith) a b o, omega arith))
+      (M j) (0, replicate markBytes 0) [] (kept-nil, omega arith)

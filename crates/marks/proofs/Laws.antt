@@ -1,0 +1,81 @@
+-- Laws of the marks: a run that is free, a run that is filled. Assumes nothing.
+use mathlib.Core.Path.{_≡_, refl, sym, ap, _∙_}
+use mathlib.Core.Bool.{Bool, true, false, not}
+use mathlib.Core.Logic.{⊎-elim}
+use mathlib.Core.List.{List}
+use Prim.Native.Nat.{ℕ, zero, suc, _+_, _≤_, _<_}
+use native.Mathlib.Nat.{eq-or-lt-of-le, le-of-suc-le-suc, not-suc-le-zero}
+use native.Mathlib.Numerals.{add-one}
+use native.Mathlib.Omega.{arith}
+use borrow.Author.Tests.{not-true, ltb-false}
+use lib.Dec.{ltb}
+use lib.ListN.{length, getD, set, length-set, replicate}
+use lib.Seq.{getD-set-same, getD-set-other}
+use Rattle.search.proofs.Settling.{and-left, and-right, and-both}
+use Rattle.marks.specs.Marking.{free, allFree, fill, first, last, fitsIn}
+
+-- a run is free: each of its marks is
+pub all-free-says : (marks : List ℕ) (at n : ℕ) → allFree marks at n ≡ true → (k : ℕ) → k < n → free (getD marks (at + k) 0) ≡ true
+unfolding allFree
+all-free-says marks at zero e k h = absurd (not-suc-le-zero h)
+all-free-says marks at (suc n) e k h =
+    ⊎-elim
+    (λ (q : k ≡ n). ap (λ (x : ℕ). free (getD marks (at + x) 0)) q ∙ and-right (allFree marks at n) _ e)
+    (λ (q : k < n). all-free-says marks at n (and-left (allFree marks at n) _ e) k q)
+    (eq-or-lt-of-le (le-of-suc-le-suc h))
+
+pub all-free-is : (marks : List ℕ) (at n : ℕ) → ((k : ℕ) → k < n → free (getD marks (at + k) 0) ≡ true) → allFree marks at n ≡ true
+unfolding allFree
+all-free-is marks at zero h = refl
+all-free-is marks at (suc n) h = and-both (allFree marks at n) _ (all-free-is marks at n (λ k l. h k (omega arith))) (h n (omega arith))
+
+-- one mark more
+pub all-free-next : (marks : List ℕ) (at n : ℕ) → allFree marks at n ≡ true → free (getD marks (at + n) 0) ≡ true → allFree marks at (n + 1) ≡ true
+unfolding allFree
+all-free-next marks at n h e = ap (allFree marks at) (add-one n) ∙ and-both (allFree marks at n) _ h e
+
+-- one mark that is taken
+pub all-free-fails : (marks : List ℕ) (at n k : ℕ) → k < n → free (getD marks (at + k) 0) ≡ false → allFree marks at n ≡ false
+all-free-fails marks at n k h e = go (allFree marks at n) refl
+  where
+    go : (x : Bool) → allFree marks at n ≡ x → x ≡ false
+    go true a = sym (all-free-says marks at n a k h) ∙ e
+    go false a = refl
+
+pub fill-length : (v : ℕ) (marks : List ℕ) (at n : ℕ) → length (fill v marks at n) ≡ length marks
+unfolding fill
+fill-length v marks at zero = refl
+fill-length v marks at (suc n) = length-set (fill v marks at n) (at + n) v ∙ fill-length v marks at n
+
+pub fill-next : (v : ℕ) (marks : List ℕ) (at n : ℕ) → set (fill v marks at n) (at + n) v ≡ fill v marks at (n + 1)
+unfolding fill
+fill-next v marks at n = ap (fill v marks at) (sym (add-one n))
+
+-- elsewhere a mark is as it was
+pub fill-off : (v : ℕ) (marks : List ℕ) (at n j : ℕ) → ((k : ℕ) → k < n → j ≡ at + k → ⊥) → getD (fill v marks at n) j 0 ≡ getD marks j 0
+unfolding fill
+fill-off v marks at zero j d = refl
+fill-off v marks at (suc n) j d = getD-set-other (fill v marks at n) (at + n) j v 0 (d n (omega arith)) ∙ fill-off v marks at n j (λ k l. d k (omega arith))
+
+-- in the run it is the number
+pub fill-at : (v : ℕ) (marks : List ℕ) (at n k : ℕ) → at + n ≤ length marks → k < n → getD (fill v marks at n) (at + k) 0 ≡ v
+unfolding fill
+fill-at v marks at zero k w l = absurd (not-suc-le-zero l)
+fill-at v marks at (suc n) k w l =
+    ⊎-elim
+    (λ (e : k ≡ n).
+    let g = fill-length v marks at n in
+    ap (λ (x : ℕ). getD (set (fill v marks at n) (at + n) v) (at + x) 0) e ∙ getD-set-same (fill v marks at n) (at + n) v 0 (omega arith))
+    (λ (q : k < n). getD-set-other (fill v marks at n) (at + n) (at + k) v 0 (λ z. omega arith) ∙ fill-at v marks at n k (omega arith) q)
+    (eq-or-lt-of-le (le-of-suc-le-suc l))
+
+-- a track that fits is not barred: its run has a segment
+pub fits-open : (runs : List ℕ) (i : ℕ) (marks : List ℕ) (l : ℕ) → fitsIn runs i marks l ≡ true → first runs i l ≤ last runs i l
+unfolding fitsIn
+fits-open runs i marks l e = ltb-false (last runs i l) (first runs i l) (not-true _ (and-left (not (ltb (last runs i l) (first runs i l))) _ e))
+
+-- no mark is set at first
+pub zeros : (n k : ℕ) → _≡_ {A = ℕ} (getD (replicate n 0) k 0) 0
+zeros zero k = refl
+zeros (suc n) zero = refl
+zeros (suc n) (suc k) = zeros n k
