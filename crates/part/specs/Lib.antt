@@ -1,0 +1,3 @@
+pub mod Part
+pub mod P1
+pub mod Writes
