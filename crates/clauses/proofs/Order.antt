@@ -1,12 +1,17 @@
 -- The literals of every clause stand in variable order, within the variables 1 to V. And each is what document 01 says. Assumes nothing.
 use mathlib.Core.Path.{_≡_, refl, sym, ap, _∙_, subst}
 use mathlib.Core.Logic.{⊎-elim}
-use mathlib.Core.List.{List, [], _∷_, _++_, List·Memᴰ}
+use mathlib.Core.Bool.{true}
+use mathlib.Core.List.{List, [], _∷_, _++_, List·Memᴰ, List·Memᴰ·head, List·Memᴰ·tail}
 use Prim.Native.Nat.{ℕ, zero, suc, _+_, _*_, _-_, _/_, _^_, _≤_, _<_}
 use native.Mathlib.Omega.{arith}
 use native.Mathlib.Nat.{div-div-eq-div-mul, pow-succ', suc-mul, mul-le-mul, le-refl}
-use Rattle.dimacs.specs.Clause.{Literal, Clause}
-use Rattle.clauses.specs.Clauses.{Grid, each, odd, forbid, bar, widthOf, clausesOf}
+use lib.ListN.{length, length-append}
+use borrow.Author.Tests.{le-leb}
+use Rattle.search.proofs.Settling.{and-both}
+use Rattle.channel.specs.Channel.{Job}
+use Rattle.dimacs.specs.Clause.{Literal, Clause, within, withinAll}
+use Rattle.clauses.specs.Clauses.{Grid, gridOf, each, odd, forbid, bar, widthOf, clausesOf, clauses, variableCount}
 use Rattle.clauses.specs.Groups.{InPairs, Rises}
 use Rattle.clauses.proofs.Each.{each-same}
 use Rattle.clauses.proofs.Groups.{clauses-are}
@@ -35,6 +40,11 @@ unfolding Rises
 rises-high a [] b to l r = omega arith
 rises-high a (x ∷ c) b to l r = (r .0, rises-high (x .variable + 1) c b to l (r .1))
 
+rises-room : (a : ℕ) (c : Clause) (to : ℕ) → Rises a c to → a ≤ to
+unfolding Rises
+rises-room a [] to r = r
+rises-room a (x ∷ c) to r = let s = rises-room (x .variable + 1) c to (r .1) in let z = r .0 in omega arith
+
 rises-append : (a : ℕ) (c : Clause) (b : ℕ) (d : Clause) (to : ℕ) → Rises a c b → Rises b d to → Rises a (c ++ d) to
 unfolding Rises
 rises-append a [] b d to r s = rises-low a b d to r s
@@ -62,3 +72,47 @@ clauses-rise g x m = ⊎-elim (λ a. alone (a .connection) (a .code) (a .inside)
     pair r = subst (λ y. Rises 1 y (g .connections * widthOf g + 1)) (sym (r .is))
         (rises-low 1 (r .m * widthOf g + 1) _ _ (omega arith)
         (rises-append (r .m * widthOf g + 1) (bar (widthOf g) (r .m) (r .code)) (r .n * widthOf g + 1) (bar (widthOf g) (r .n) (r .code)) _ (bar-rises (widthOf g) (r .m) (r .code) (r .n) (r .order)) (bar-rises (widthOf g) (r .n) (r .code) (g .connections) (r .inside))))
+
+-- so every variable is one of 1 to V
+rises-within : (n from : ℕ) (c : Clause) (to : ℕ) → 1 ≤ from → to ≤ n + 1 → Rises from c to → within n c ≡ true
+unfolding Rises within
+rises-within n from [] to a b r = refl
+rises-within n from (l ∷ c) to a b r =
+    let z = rises-room (l .variable + 1) c to (r .1) in
+    let s = r .0 in
+    and-both _ _ (and-both _ _ (le-leb 1 (l .variable) (omega arith)) (le-leb (l .variable) n (omega arith))) (rises-within n (l .variable + 1) c to (omega arith) b (r .1))
+
+within-each : (n : ℕ) (cs : List Clause) → ((x : Clause) → List·Memᴰ x cs → within n x ≡ true) → withinAll n cs ≡ true
+unfolding withinAll
+within-each n [] h = refl
+within-each n (c ∷ cs) h = and-both _ _ (h c (List·Memᴰ·head refl)) (within-each n cs (λ x m. h x (List·Memᴰ·tail m)))
+
+pub clauses-within : (g : Grid) (n : ℕ) → g .connections * widthOf g ≤ n → withinAll n (clausesOf g) ≡ true
+clauses-within g n h = within-each n (clausesOf g) (λ x m. rises-within n 1 x (g .connections * widthOf g + 1) (omega arith) (omega arith) (clauses-rise g x m))
+
+pub job-within : (j : Job) → withinAll (variableCount j) (clauses j) ≡ true
+job-within j = clauses-within (gridOf j) (variableCount j) (le-refl (variableCount j))
+
+-- and a clause has at most two codes' literals
+forbid-length : (k v c : ℕ) → length (forbid k v c) ≡ k
+unfolding forbid
+forbid-length zero v c = refl
+forbid-length (suc k) v c = length-append (forbid k v (c / 2)) (record { variable = v + k; negated = odd c } ∷ []) ∙ (let ih = forbid-length k v (c / 2) in omega arith)
+
+bar-length : (w i c : ℕ) → length (bar w i c) ≡ w
+unfolding bar
+bar-length w i c = forbid-length w (i * w + 1) c
+
+pub clause-length : (g : Grid) (x : Clause) → List·Memᴰ x (clausesOf g) → length x ≤ 2 * widthOf g
+clause-length g x m = ⊎-elim (λ a. alone (a .connection) (a .code) (a .is)) (⊎-elim (λ b. alone (b .connection) (b .code) (b .is)) pair) (clauses-are g x .0 m)
+  where
+    alone : (i c : ℕ) → x ≡ bar (widthOf g) i c → length x ≤ 2 * widthOf g
+    alone i c e = let a = ap length e in let b = bar-length (widthOf g) i c in omega arith
+
+    pair : InPairs g x → length x ≤ 2 * widthOf g
+    pair r =
+        let a = ap length (r .is) in
+        let b = length-append (bar (widthOf g) (r .m) (r .code)) (bar (widthOf g) (r .n) (r .code)) in
+        let d = bar-length (widthOf g) (r .m) (r .code) in
+        let e = bar-length (widthOf g) (r .n) (r .code) in
+        omega arith

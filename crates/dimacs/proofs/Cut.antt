@@ -1,14 +1,15 @@
 -- The cut theorem: of a reply that is not refused, each beginning is refused or gives the same answer. Assumes nothing.
 use mathlib.Core.Path.{_≡_, refl, sym, ap, subst, _∙_}
-use mathlib.Core.Bool.{Bool, true, false, cond, not, _&&_, false≢true, true≢false}
+use mathlib.Core.Bool.{Bool, true, false, cond, _&&_, false≢true}
 use mathlib.Core.List.{List, [], _∷_, _++_, map}
 use mathlib.Core.Logic.{_⊎_, inl, inr}
-use Prim.Native.Nat.{ℕ, zero, suc, _+_, _≤_, _<_}
+use Prim.Native.Nat.{ℕ, zero, suc}
 use native.Mathlib.Omega.{arith}
-use lib.Dec.{eqb, leb}
+use lib.Dec.{eqb}
 use lib.ListN.{take, drop, take-append-drop}
 use borrow.Author.Tests.{eqb-true, eq-eqb}
 use Rattle.dimacs.specs.Reply.{onto, split, kept, lines, same, every, Word, stop, lit, isNumber, nought, isLiteral, literal, unsigned, negative, decimal, Status, satisfiable, unsatisfiable, unknown, text, Line, bad, quiet, says, gives, statusWord, statusLine, valueLine, tagged, lineOf, firstBad, statuses, literals, closed, Parsed, Refused6, Unsat, Unsure, Sat, settle, placed, judged, answerOf, accepts}
+use Rattle.dimacs.proofs.Bools.{both}
 
 -- a list and a longer one: they go along but for the last of the first
 pub data Along {A : Type 0} (R : A → A → Type 0) : List A → List A → Type 0 where
@@ -112,11 +113,6 @@ starts : List ℕ → List ℕ → Bool
 starts [] m = true
 starts (b ∷ l) [] = false
 starts (b ∷ l) (c ∷ m) = eqb b c && starts l m
-
--- two tests that both pass
-pub both : (a b : Bool) → (a && b) ≡ true → (a ≡ true) × (b ≡ true)
-both true b h = (refl, h)
-both false b h = absurd (false≢true h)
 
 starts-append : (l u : List ℕ) → starts l (l ++ u) ≡ true
 unfolding starts

@@ -1,28 +1,20 @@
 -- Row 7: where no variable is too large or seen before, variables are missing exactly if there are fewer literals than variables. Assumes nothing.
 use mathlib.Core.Path.{_≡_, refl, sym, ap, subst, _∙_}
-use mathlib.Core.Bool.{Bool, true, false, cond, not, _&&_, _||_, false≢true, true≢false}
-use mathlib.Core.List.{List, [], _∷_, _++_, map}
+use mathlib.Core.Bool.{Bool, true, false, cond, _&&_, _||_, true≢false}
+use mathlib.Core.List.{List, [], _∷_}
 use Prim.Native.Nat.{ℕ, zero, suc, _+_, _≤_, _<_}
 use native.Mathlib.Omega.{arith}
 use lib.Dec.{eqb, leb, ltb, leb·suc-suc}
 use lib.ListN.{length}
-use borrow.Author.Tests.{eqb-true, eqb-false, eq-eqb, ne-eqb, le-leb, lt-leb, leb-true, leb-false, ltb-false}
+use borrow.Author.Tests.{eqb-true, eqb-false, eq-eqb, le-leb, lt-leb, leb-true, leb-false, ltb-false}
 use Rattle.dimacs.specs.Reply.{every}
-use Rattle.dimacs.proofs.Cut.{both}
-use Rattle.dimacs.specs.Model.{among, firstWrong, allThere, place7}
+use Rattle.dimacs.specs.Model.{among, firstWrong, allThere}
+use Rattle.dimacs.proofs.Bools.{both, either-false}
 
 -- all different, and within 1 to n
 data Apart (n : ℕ) : List ℕ → Type 0 where
   no-more : Apart n []
   and-more : (v : ℕ) {vs : List ℕ} → 1 ≤ v → v ≤ n → among v vs ≡ false → Apart n vs → Apart n (v ∷ vs)
-
-neither : (a b : Bool) → (a || b) ≡ false → (a ≡ false) × (b ≡ false)
-neither true b h = absurd (true≢false h)
-neither false b h = (refl, h)
-
-either-false : (a b : Bool) → a ≡ false → b ≡ false → (a || b) ≡ false
-either-false true b h k = absurd (true≢false h)
-either-false false b h k = k
 
 -- how many are at most k
 upTo : ℕ → List ℕ → ℕ
@@ -111,3 +103,7 @@ apart-of n i seen (v ∷ vs) p h =
 -- variables are missing exactly if there are fewer literals than variables
 pub missing : (n : ℕ) (vs : List ℕ) → every (leb 1) vs ≡ true → firstWrong n [] 1 vs ≡ 0 → allThere n vs ≡ leb n (length vs)
 missing n vs p h = let a = apart-of n 0 [] vs p h in there a n .1 ∙ ap (leb n) (upTo-all a)
+
+-- and there are no more literals than variables
+pub at-most : (n : ℕ) (vs : List ℕ) → every (leb 1) vs ≡ true → firstWrong n [] 1 vs ≡ 0 → length vs ≤ n
+at-most n vs p h = let a = apart-of n 0 [] vs p h in subst (λ k. k ≤ n) (upTo-all a) (there a n .0)

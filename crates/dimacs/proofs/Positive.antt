@@ -1,18 +1,19 @@
 -- The variables of a reply are at least 1, so that row 7's missing variables are a matter of counting. Assumes nothing.
-use mathlib.Core.Path.{_≡_, refl, sym, ap, subst, _∙_}
-use mathlib.Core.Bool.{Bool, true, false, cond, not, _&&_, _||_, false≢true, true≢false}
+use mathlib.Core.Path.{_≡_, refl, ap, subst}
+use mathlib.Core.Bool.{Bool, true, false, cond, _&&_, false≢true}
 use mathlib.Core.List.{List, [], _∷_, _++_, map}
 use mathlib.Core.Logic.{_⊎_, inl, inr}
-use Prim.Native.Nat.{ℕ, zero, suc, _+_, _-_, _*_, _≤_, _<_}
+use Prim.Native.Nat.{ℕ, zero, suc, _+_, _-_, _*_, _≤_}
 use native.Mathlib.Omega.{arith}
-use lib.Dec.{eqb, leb}
+use lib.Dec.{leb}
 use lib.ListN.{length}
-use borrow.Author.Tests.{eqb-true, leb-true, le-leb}
-use Rattle.dimacs.specs.Reply.{same, every, digit, Word, stop, lit, isNumber, decimal, nought, isLiteral, literal, unsigned, negative, Status, satisfiable, unsatisfiable, unknown, Line, bad, quiet, says, gives, lines, lineOf, firstBad, statuses, literals, closed, Parsed, Refused6, Unsat, Unsure, Sat, settle, placed, judged, answerOf, accepts}
+use borrow.Author.Tests.{leb-true, le-leb}
+use Rattle.dimacs.specs.Reply.{same, every, digit, Word, stop, lit, isNumber, decimal, nought, isLiteral, literal, unsigned, negative, Status, satisfiable, unsatisfiable, unknown, Line, bad, quiet, says, gives, lines, lineOf, literals, closed, Parsed, Refused6, Sat, settle, placed, judged, answerOf}
 use Rattle.dimacs.specs.Model.{before, variables, firstWrong, allThere}
-use Rattle.dimacs.proofs.Cut.{both}
-use Rattle.dimacs.proofs.Words.{IsLine, empty, c-alone, c-blank, s-line, v-line, line-shows}
+use Rattle.dimacs.specs.Forms.{IsLine, empty, c-alone, c-blank, s-line, v-line}
+use Rattle.dimacs.proofs.Words.{line-shows}
 use Rattle.dimacs.proofs.Missing.{missing}
+use Rattle.dimacs.proofs.Bools.{both, both-true}
 
 pos : Word → Bool
 pos stop = true
@@ -38,10 +39,6 @@ literal-pos w = go (same w nought)
     go : (x : Bool) → cond x true (isNumber (unsigned w)) ≡ true → pos (cond x stop (lit (record { variable = decimal 0 (unsigned w); negated = negative w }))) ≡ true
     go true h = refl
     go false h = le-leb 1 (decimal 0 (unsigned w)) (number-pos (unsigned w) h)
-
-both-true : (a b : Bool) → a ≡ true → b ≡ true → (a && b) ≡ true
-both-true true b h k = k
-both-true false b h k = absurd (false≢true h)
 
 words-pos : (ws : List (List ℕ)) → every isLiteral ws ≡ true → every pos (map literal ws) ≡ true
 unfolding every

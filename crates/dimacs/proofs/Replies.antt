@@ -1,15 +1,14 @@
 -- THE CUT THEOREM for a job's clauses: no beginning of a reply gives another answer than the whole, but a refusal by row 6; and the empty
 -- reply is refused by 6, place 0. Rows 7 and 8 see nothing but the words of the text, so `cut` carries over. Assumes nothing.
-use mathlib.Core.Path.{_≡_, refl, sym, ap, _∙_}
+use mathlib.Core.Path.{_≡_, refl, ap, _∙_}
 use mathlib.Core.Bool.{Bool, true, false, false≢true}
 use mathlib.Core.List.{List, []}
 use mathlib.Core.Logic.{_⊎_, inl, inr}
 use Prim.Native.Nat.{ℕ}
-use native.Mathlib.Omega.{arith}
 use lib.ListN.{take}
 use Rattle.dimacs.specs.Clause.{Literal, Clause}
-use Rattle.dimacs.specs.Reply.{Word, Parsed, Refused6, Sat, Unsat, Unsure, answerOf, accepts}
-use Rattle.dimacs.specs.Model.{before, Reply, Refused, Accepted, Claimed, Unknown, checked, replied, replyOf}
+use Rattle.dimacs.specs.Reply.{Parsed, Refused6, Sat, Unsat, Unsure, answerOf, accepts}
+use Rattle.dimacs.specs.Model.{Reply, Refused, Accepted, Claimed, Unknown, replied, replyOf}
 use Rattle.dimacs.proofs.Cut.{Refuses, cut, empty-refused}
 
 module _ (n : ℕ) (cs : List Clause) where

@@ -1,29 +1,17 @@
--- The lines of a reply in the document's own words, and that `lineOf` knows exactly these. Assumes nothing.
+-- `lineOf` and `literal` know exactly the lines and literals of document 01's sentence. Assumes nothing.
 use mathlib.Core.Path.{_≡_, refl, sym, ap, subst, _∙_}
-use mathlib.Core.Bool.{Bool, true, false, cond, not, _&&_, _||_, false≢true, true≢false}
-use mathlib.Core.List.{List, [], _∷_, _++_, map, append-nil}
+use mathlib.Core.Bool.{Bool, true, false, cond, _&&_, _||_, false≢true}
+use mathlib.Core.List.{List, [], _∷_, _++_, append-nil}
 use mathlib.Core.Logic.{_⊎_, inl, inr}
-use Prim.Native.Nat.{ℕ, zero, suc, _+_, _-_, _*_, _≤_, _<_}
+use Prim.Native.Nat.{ℕ, _≤_, _<_}
 use native.Mathlib.Omega.{arith}
 use lib.Dec.{eqb, leb}
 use lib.ListN.{length}
-use borrow.Author.Tests.{eqb-true, eqb-false, eq-eqb, ne-eqb, leb-true}
-use Rattle.dimacs.specs.Reply.{onto, split, same, every, digit, Word, stop, lit, isNumber, decimal, nought, isLiteral, literal, unsigned, negative, Status, satisfiable, unsatisfiable, unknown, text, Line, bad, quiet, says, gives, statusWord, statusLine, valueLine, tagged, lineOf}
-use Rattle.dimacs.proofs.Cut.{both, same-true, StatusWord, no-status, a-status, status-word-view}
-
--- a blank before each word
-unfoldable pub spaced : List (List ℕ) → List ℕ
-spaced [] = []
-spaced (w ∷ ws) = 32 ∷ w ++ spaced ws
-
--- A well-formed line is empty; or `c` alone, or begins with `c` and a blank; or is `s` and one of three words;
--- or is `v` followed by one or more times a blank and a literal.
-pub data IsLine : List ℕ → Line → Type 0 where
-  empty : IsLine [] quiet
-  c-alone : IsLine (99 ∷ []) quiet
-  c-blank : (m : List ℕ) → IsLine (99 ∷ 32 ∷ m) quiet
-  s-line : (s : Status) → IsLine (115 ∷ 32 ∷ text s) (says s)
-  v-line : (w : List ℕ) (ws : List (List ℕ)) → every isLiteral (w ∷ ws) ≡ true → IsLine (118 ∷ spaced (w ∷ ws)) (gives (map literal (w ∷ ws)))
+use borrow.Author.Tests.{eqb-true, eq-eqb, ne-eqb, leb-true, le-leb}
+use Rattle.dimacs.specs.Reply.{onto, split, same, every, digit, Word, stop, lit, isNumber, decimal, nought, isLiteral, literal, unsigned, negative, satisfiable, unsatisfiable, unknown, text, Line, bad, quiet, says, statusWord, statusLine, valueLine, tagged, lineOf}
+use Rattle.dimacs.specs.Forms.{IsLiteral, a-nought, a-plain, a-negated, spaced, IsLine, empty, c-alone, c-blank, s-line, v-line}
+use Rattle.dimacs.proofs.Cut.{same-true, StatusWord, no-status, a-status, status-word-view}
+use Rattle.dimacs.proofs.Bools.{both, both-true, neither, either-false}
 
 -- the words of a text, with single blanks between them, are the text
 joined : (l : List ℕ) → (w : List ℕ) × (ws : List (List ℕ)) × (split 32 l ≡ w ∷ ws) × (l ≡ w ++ spaced ws)
@@ -80,73 +68,137 @@ line-shows (b ∷ l) =
     let j = joined (b ∷ l) in
     subst (λ z. Shows (b ∷ l) (tagged z)) (sym (j .2)) (subst (λ z. Shows z (tagged (j .0 ∷ j .1))) (sym (j .3)) (tag-shows (j .0) (j .1)))
 
--- a blank stands in the text
-blanks : List ℕ → Bool
-blanks [] = false
-blanks (b ∷ t) = eqb b 32 || blanks t
-
-either-false : (a b : Bool) → a ≡ false → b ≡ false → (a || b) ≡ false
-either-false true b h k = absurd (true≢false h)
-either-false false b h k = k
-
-neither : (a b : Bool) → (a || b) ≡ false → (a ≡ false) × (b ≡ false)
-neither true b h = absurd (true≢false h)
-neither false b h = (refl, h)
-
-digits-plain : (w : List ℕ) → every digit w ≡ true → blanks w ≡ false
-unfolding every blanks
-digits-plain [] h = refl
-digits-plain (b ∷ w) h =
-    let g = both (digit b) (every digit w) h in
-    let l = leb-true 48 b (both (leb 48 b) (leb b 57) (g .0) .0) in
-    either-false (eqb b 32) (blanks w) (ne-eqb b 32 (λ e. omega arith)) (digits-plain w (g .1))
-
-number-plain : (w : List ℕ) → isNumber w ≡ true → blanks w ≡ false
-unfolding isNumber blanks
-number-plain [] h = refl
-number-plain (b ∷ w) h =
-    let g = both (leb 49 b && leb b 57) (leb (length w) 2 && every digit w) h in
-    let l = leb-true 49 b (both (leb 49 b) (leb b 57) (g .0) .0) in
-    either-false (eqb b 32) (blanks w) (ne-eqb b 32 (λ e. omega arith)) (digits-plain w (both (leb (length w) 2) (every digit w) (g .1) .1))
-
-unsigned-plain : (w : List ℕ) → blanks (unsigned w) ≡ false → blanks w ≡ false
-unfolding unsigned blanks
-unsigned-plain [] h = refl
-unsigned-plain (b ∷ w) h = go (eqb b 45) refl h
+-- a text has one part at least
+pub split-cons : (s : ℕ) (t : List ℕ) → (w : List ℕ) × (ws : List (List ℕ)) × (split s t ≡ w ∷ ws)
+unfolding split onto
+split-cons s [] = ([], [], refl)
+split-cons s (b ∷ t) = go (eqb b s) (split s t)
   where
-    go : (x : Bool) → eqb b 45 ≡ x → blanks (cond x w (b ∷ w)) ≡ false → (eqb b 32 || blanks w) ≡ false
-    go true e h = let f = eqb-true b 45 e in either-false (eqb b 32) (blanks w) (ne-eqb b 32 (λ g. omega arith)) h
-    go false e h = h
+    go : (x : Bool) (ls : List (List ℕ)) → (w : List ℕ) × (ws : List (List ℕ)) × (cond x ([] ∷ ls) (onto b ls) ≡ w ∷ ws)
+    go true ls = ([], ls, refl)
+    go false [] = (b ∷ [], [], refl)
+    go false (l ∷ ls) = (b ∷ l, ls, refl)
 
--- no literal has a blank
-literal-plain : (w : List ℕ) → isLiteral w ≡ true → blanks w ≡ false
-unfolding isLiteral blanks
-literal-plain w = go (same w nought) refl
-  where
-    go : (x : Bool) → same w nought ≡ x → cond x true (isNumber (unsigned w)) ≡ true → blanks w ≡ false
-    go true e h = subst (λ z. blanks z ≡ false) (sym (same-true w nought e)) refl
-    go false e h = unsigned-plain w (number-plain (unsigned w) h)
+-- a byte stands in the text
+unfoldable pub has : ℕ → List ℕ → Bool
+has s [] = false
+has s (b ∷ t) = eqb b s || has s t
 
--- a word without a blank, before a blank or at the end
-split-word : (w : List ℕ) (ws vs : List (List ℕ)) → blanks w ≡ false → split 32 (spaced ws) ≡ [] ∷ vs → split 32 (w ++ spaced ws) ≡ w ∷ vs
-unfolding split onto blanks
-split-word [] ws vs h e = e
-split-word (b ∷ w) ws vs h e = let n = neither (eqb b 32) (blanks w) h in simp (n .0) (ap (onto b) (split-word w ws vs (n .1) e))
+-- no literal has a byte below the minus: no blank and no LF
+module _ (s : ℕ) (low : s < 45) where
+  pub digits-free : (w : List ℕ) → every digit w ≡ true → has s w ≡ false
+  unfolding every has
+  digits-free [] h = refl
+  digits-free (b ∷ w) h =
+      let g = both (digit b) (every digit w) h in
+      let l = leb-true 48 b (both (leb 48 b) (leb b 57) (g .0) .0) in
+      either-false (eqb b s) (has s w) (ne-eqb b s (λ e. omega arith)) (digits-free w (g .1))
 
-split-spaced : (ws : List (List ℕ)) → every isLiteral ws ≡ true → split 32 (spaced ws) ≡ [] ∷ ws
-unfolding split spaced every
-split-spaced [] h = refl
-split-spaced (w ∷ ws) h =
-    let g = both (isLiteral w) (every isLiteral ws) h in
-    ap (λ z. [] ∷ z) (split-word w ws ws (literal-plain w (g .0)) (split-spaced ws (g .1)))
+  number-free : (w : List ℕ) → isNumber w ≡ true → has s w ≡ false
+  unfolding isNumber has
+  number-free [] h = refl
+  number-free (b ∷ w) h =
+      let g = both (leb 49 b && leb b 57) (leb (length w) 2 && every digit w) h in
+      let l = leb-true 49 b (both (leb 49 b) (leb b 57) (g .0) .0) in
+      either-false (eqb b s) (has s w) (ne-eqb b s (λ e. omega arith)) (digits-free w (both (leb (length w) 2) (every digit w) (g .1) .1))
+
+  unsigned-free : (w : List ℕ) → has s (unsigned w) ≡ false → has s w ≡ false
+  unfolding unsigned has
+  unsigned-free [] h = refl
+  unsigned-free (b ∷ w) h = go (eqb b 45) refl h
+    where
+      go : (x : Bool) → eqb b 45 ≡ x → has s (cond x w (b ∷ w)) ≡ false → (eqb b s || has s w) ≡ false
+      go true e h = let f = eqb-true b 45 e in either-false (eqb b s) (has s w) (ne-eqb b s (λ g. omega arith)) h
+      go false e h = h
+
+  pub literal-free : (w : List ℕ) → isLiteral w ≡ true → has s w ≡ false
+  unfolding isLiteral has
+  literal-free w h = go (same w nought) refl h
+    where
+      zero-free : has s nought ≡ false
+      zero-free = either-false (eqb 48 s) false (ne-eqb 48 s (λ g. omega arith)) refl
+
+      go : (x : Bool) → same w nought ≡ x → cond x true (isNumber (unsigned w)) ≡ true → has s w ≡ false
+      go true e h = subst (λ z. has s z ≡ false) (sym (same-true w nought e)) zero-free
+      go false e h = unsigned-free w (number-free (unsigned w) h)
+
+-- a word without the byte s, and what comes after it
+module _ (s : ℕ) where
+  pub split-end : (w : List ℕ) → has s w ≡ false → split s w ≡ w ∷ []
+  unfolding split onto has
+  split-end [] h = refl
+  split-end (b ∷ w) h = let n = neither (eqb b s) (has s w) h in simp (n .0) (ap (onto b) (split-end w (n .1)))
+
+  pub split-at : (w r : List ℕ) → has s w ≡ false → split s (w ++ s ∷ r) ≡ w ∷ split s r
+  unfolding split onto has
+  split-at [] r h = simp (eq-eqb s s refl)
+  split-at (b ∷ w) r h = let n = neither (eqb b s) (has s w) h in simp (n .0) (ap (onto b) (split-at w r (n .1)))
+
+pub has-append : (s : ℕ) (w v : List ℕ) → has s w ≡ false → has s v ≡ false → has s (w ++ v) ≡ false
+unfolding has
+has-append s [] v h k = k
+has-append s (b ∷ w) v h k = let n = neither (eqb b s) (has s w) h in either-false (eqb b s) (has s (w ++ v)) (n .0) (has-append s w v (n .1) k)
+
+-- words, a blank before each, are these words
+split-spaced : (w : List ℕ) (ws : List (List ℕ)) → has 32 w ≡ false → every isLiteral ws ≡ true → split 32 (w ++ spaced ws) ≡ w ∷ ws
+unfolding spaced every
+split-spaced w [] h k = ap (split 32) (append-nil w) ∙ split-end 32 w h
+split-spaced w (v ∷ ws) h k =
+    let g = both (isLiteral v) (every isLiteral ws) k in
+    split-at 32 w (v ++ spaced ws) h ∙ ap (λ z. w ∷ z) (split-spaced v ws (literal-free 32 (omega arith) v (g .0)) (g .1))
 
 -- and what is so `lineOf` says
 pub line-is : {l : List ℕ} {k : Line} → IsLine l k → lineOf l ≡ k
-unfolding lineOf split onto tagged statusLine statusWord valueLine same text
+unfolding lineOf split onto tagged statusLine statusWord valueLine same text has
 line-is empty = refl
 line-is c-alone = refl
 line-is (c-blank m) = refl
 line-is (s-line satisfiable) = refl
 line-is (s-line unsatisfiable) = refl
 line-is (s-line unknown) = refl
-line-is (v-line w ws h) = ap (λ z. tagged (onto 118 z)) (split-spaced (w ∷ ws) h) ∙ simp h
+line-is (v-line w ws h) = ap tagged (split-spaced (118 ∷ []) (w ∷ ws) refl h) ∙ simp h
+
+number-says : (b : ℕ) (u : List ℕ) → isNumber (b ∷ u) ≡ true → ((leb 49 b && leb b 57) ≡ true) × (length u ≤ 2) × (every digit u ≡ true)
+unfolding isNumber
+number-says b u h =
+    let g = both (leb 49 b && leb b 57) (leb (length u) 2 && every digit u) h in
+    let k = both (leb (length u) 2) (every digit u) (g .1) in
+    (g .0, leb-true (length u) 2 (k .0), k .1)
+
+says-number : (b : ℕ) (u : List ℕ) → (leb 49 b && leb b 57) ≡ true → length u ≤ 2 → every digit u ≡ true → isNumber (b ∷ u) ≡ true
+unfolding isNumber
+says-number b u h k d = both-true _ _ h (both-true _ _ (le-leb (length u) 2 k) d)
+
+-- with or without a minus
+number-shows : (w : List ℕ) → isNumber (unsigned w) ≡ true → IsLiteral w (lit (record { variable = decimal 0 (unsigned w); negated = negative w }))
+unfolding unsigned negative isNumber
+number-shows [] h = absurd (false≢true h)
+number-shows (b ∷ w) h = go (eqb b 45) refl h
+  where
+    signed : (u : List ℕ) → isNumber u ≡ true → IsLiteral (45 ∷ u) (lit (record { variable = decimal 0 u; negated = true }))
+    signed [] h = absurd (false≢true h)
+    signed (d ∷ u) h = let g = number-says d u h in a-negated d u (g .0) (g .1) (g .2)
+
+    go : (x : Bool) → eqb b 45 ≡ x → isNumber (cond x w (b ∷ w)) ≡ true → IsLiteral (b ∷ w) (lit (record { variable = decimal 0 (cond x w (b ∷ w)); negated = x }))
+    go true e h = subst (λ z. IsLiteral (z ∷ w) (lit (record { variable = decimal 0 w; negated = true }))) (sym (eqb-true b 45 e)) (signed w h)
+    go false e h = let g = number-says b w h in a-plain b w (g .0) (g .1) (g .2)
+
+-- what `isLiteral` passes is a literal
+pub literal-shows : (w : List ℕ) → isLiteral w ≡ true → IsLiteral w (literal w)
+unfolding isLiteral literal
+literal-shows w = go (same w nought) refl
+  where
+    go : (x : Bool) → same w nought ≡ x → cond x true (isNumber (unsigned w)) ≡ true → IsLiteral w (cond x stop (lit (record { variable = decimal 0 (unsigned w); negated = negative w })))
+    go true e h = subst (λ z. IsLiteral z stop) (sym (same-true w nought e)) a-nought
+    go false e h = number-shows w h
+
+-- and a literal passes, with its value
+pub literal-is : {w : List ℕ} {x : Word} → IsLiteral w x → (isLiteral w ≡ true) × (literal w ≡ x)
+unfolding isLiteral literal same unsigned negative
+literal-is a-nought = (refl, refl)
+literal-is (a-plain b w h k d) =
+    let l = leb-true 49 b (both (leb 49 b) (leb b 57) h .0) in
+    let e = ne-eqb b 48 (λ z. omega arith) in
+    let f = ne-eqb b 45 (λ z. omega arith) in
+    (simp (e, f) (says-number b w h k d), simp (e, f))
+literal-is (a-negated b w h k d) = (says-number b w h k d, refl)

@@ -1,3 +1,6 @@
 pub mod Clause
 pub mod Reply
+pub mod Forms
 pub mod Model
+pub mod Refusals
+pub mod Lines

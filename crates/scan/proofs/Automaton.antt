@@ -1,17 +1,16 @@
 -- What is left of a line, by the mode reached: one byte moves both on. Assumes nothing.
-use mathlib.Core.Path.{_≡_, refl, sym, ap, subst, _∙_}
-use mathlib.Core.Bool.{Bool, true, false, cond, not, _&&_, false≢true, true≢false}
+use mathlib.Core.Path.{_≡_, refl, sym, ap, _∙_}
+use mathlib.Core.Bool.{Bool, true, false, cond, _&&_, true≢false}
 use mathlib.Core.List.{List, [], _∷_, _++_, map}
-use Prim.Native.Nat.{ℕ, zero, suc, _+_, _-_, _*_, _≤_, _<_}
+use Prim.Native.Nat.{ℕ, suc, _+_, _-_, _*_}
 use native.Mathlib.Omega.{arith}
 use native.Mathlib.Nat.{zero-add}
 use lib.Dec.{eqb, leb, leb·zero, leb·suc-suc, leb·suc-zero}
-use lib.ListN.{length, getD, take, drop}
-use lib.Seq.{slice}
-use borrow.Author.Tests.{eqb-true, eq-eqb, ne-eqb, leb-true, le-leb, leb-false, lt-leb}
-use Rattle.dimacs.specs.Reply.{onto, split, same, every, digit, Word, stop, lit, isNumber, decimal, nought, isLiteral, literal, unsigned, negative, Line, bad, quiet, says, gives, statusWord, statusLine, valueLine, tagged, lineOf}
-use Rattle.dimacs.proofs.Cut.{both}
-use Rattle.scan.specs.Step.{startOf, onlyBlank, leading, ten, gapOf, minusOf, secondOf, thirdOf, stepOf, litOf}
+use lib.ListN.{length}
+use borrow.Author.Tests.{eqb-true, ne-eqb, leb-true}
+use Rattle.dimacs.specs.Reply.{onto, same, every, digit, Word, stop, lit, isNumber, decimal, isLiteral, literal, unsigned, negative, Line, bad, quiet, says, gives, statusLine, valueLine, tagged}
+use Rattle.dimacs.proofs.Bools.{both}
+use Rattle.scan.specs.Step.{startOf, onlyBlank, leading, ten, gapOf, minusOf, stepOf, litOf}
 use Rattle.scan.specs.declared.Mode.{Mode}
 use Rattle.scan.specs.declared.Mode.the-variants.{Start, LetterC, Comment, LetterS, Said, LetterV, Gap, Minus, One, Two, Three, Zero, Bad}
 use Rattle.scan.specs.declared.Lit.{Lit}

@@ -1,6 +1,5 @@
 -- The number of a status word. Assumes nothing.
-use mathlib.Core.Path.{_≡_, refl, subst, sym}
-use mathlib.Core.Bool.{Bool, true, false}
+use mathlib.Core.Path.{_≡_, refl}
 use mathlib.Core.List.{List}
 use Prim.Native.Nat.{ℕ}
 use Rattle.dimacs.specs.Reply.{same, Status, satisfiable, unsatisfiable, unknown, text, Line, statusWord}

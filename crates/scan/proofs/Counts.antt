@@ -1,20 +1,19 @@
 -- What the counts of the reader say of the lists they stand for. Assumes nothing.
-use mathlib.Core.Path.{_≡_, refl, sym, ap, subst, _∙_}
+use mathlib.Core.Path.{_≡_, refl, ap}
 use mathlib.Core.Bool.{Bool, true, false, cond, _&&_, false≢true}
 use mathlib.Core.List.{List, [], _∷_, _++_}
-use Prim.Native.Nat.{ℕ, zero, suc, _+_, _≤_, _<_}
+use Prim.Native.Nat.{ℕ, _+_, _≤_}
 use native.Mathlib.Omega.{arith}
 use lib.Dec.{eqb}
 use lib.ListN.{length}
-use borrow.Author.Tests.{eq-eqb, ne-eqb}
-use Rattle.dimacs.specs.Reply.{Word, stop, lit, Status, satisfiable, unsatisfiable, unknown, closed, Parsed, settle}
+use borrow.Author.Tests.{ne-eqb}
+use Rattle.dimacs.specs.Reply.{Word, stop, lit, Status, satisfiable, unsatisfiable, unknown, closed, settle}
 use Rattle.dimacs.specs.Reply.{Refused6, Sat as SatAs}
 use Rattle.dimacs.specs.Model.{before}
 use Rattle.scan.specs.Step.{Tally, notedOf, numberOf, bySaid, brief}
 use Rattle.scan.specs.declared.Lit.{Lit}
 use Rattle.scan.specs.declared.Lit.the-variants.{Nothing, Stop, Var}
-use Rattle.scan.specs.declared.Answer.{Answer}
-use Rattle.scan.specs.declared.Answer.the-variants.{Refused, Claimed, Unknown, Sat}
+use Rattle.scan.specs.declared.Answer.the-variants.{Refused, Sat}
 
 abbrev pub toLit : Word → Lit
 toLit stop = Stop

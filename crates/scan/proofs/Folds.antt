@@ -1,8 +1,8 @@
 -- The marks after the literals of a reply, one literal more at a time. Assumes nothing.
-use mathlib.Core.Path.{_≡_, refl, sym, ap, subst, _∙_}
+use mathlib.Core.Path.{_≡_, refl, sym, ap, _∙_}
 use mathlib.Core.Bool.{Bool, true, false, cond, false≢true, true≢false}
-use mathlib.Core.List.{List, [], _∷_, _++_, map, append-nil}
-use Prim.Native.Nat.{ℕ, zero, suc, _+_, _≤_, _<_}
+use mathlib.Core.List.{List, [], _∷_, _++_, append-nil}
+use Prim.Native.Nat.{ℕ, suc, _+_}
 use native.Mathlib.Omega.{arith}
 use lib.Dec.{eqb}
 use lib.ListN.{length}
@@ -10,7 +10,7 @@ use borrow.Author.Tests.{eq-eqb, ne-eqb}
 use Rattle.dimacs.specs.Reply.{Word, stop, lit}
 use Rattle.dimacs.specs.Model.{before}
 use Rattle.dimacs.specs.Clause.{Literal}
-use Rattle.scan.specs.Step.{Tally, notedOf}
+use Rattle.scan.specs.Step.{Tally}
 use Rattle.scan.specs.declared.Lit.{Lit}
 use Rattle.scan.specs.declared.Lit.the-variants.{Nothing, Stop, Var}
 use Rattle.scan.proofs.Automaton.{signed, listOf}

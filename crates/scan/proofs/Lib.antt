@@ -6,3 +6,4 @@ pub mod Reader
 pub mod Agrees
 pub mod Folds
 pub mod Marked
+pub mod Answers

@@ -2,22 +2,22 @@
 -- Assumes nothing.
 use mathlib.Core.Path.{_≡_, refl, sym, ap, subst, _∙_}
 use mathlib.Core.Bool.{cond}
-use mathlib.Core.List.{List, [], _∷_, _++_}
-use Prim.Native.Nat.{ℕ, suc, _+_, _≤_, _<_}
+use mathlib.Core.List.{List, [], _++_}
+use Prim.Native.Nat.{ℕ, _+_, _≤_, _<_}
 use native.Mathlib.Omega.{arith}
 use lib.Dec.{eqb}
 use lib.ListN.{length, getD, replicate, length-replicate, getD-replicate}
 use Rattle.dimacs.specs.Clause.{mostVariables}
 use Rattle.dimacs.specs.Reply.{Word, answerOf, Sat}
-use Rattle.dimacs.specs.Model.{before, variables, firstWrong}
-use Rattle.scan.specs.Step.{litOf, eventOf, Tally, notedOf, countOf, shutOf, stepOf, endOf, saidOf, toldOf, brief}
+use Rattle.dimacs.specs.Model.{before}
+use Rattle.scan.specs.Step.{litOf, eventOf, Tally, notedOf, countOf, shutOf, stepOf, endOf, saidOf, atEnd}
 use Rattle.scan.specs.Marks.{wrongLit, seenLit, markOf, Done}
 use Rattle.scan.specs.declared.Lit.{Lit}
 use Rattle.scan.specs.declared.Answer.{Answer}
 use Rattle.scan.specs.declared.Mode.{Mode}
 use Rattle.scan.specs.declared.Mode.the-variants.{Start, Bad}
 use Rattle.scan.proofs.Automaton.{listOf}
-use Rattle.scan.proofs.Counts.{runs, tally}
+use Rattle.scan.proofs.Counts.{tally}
 use Rattle.scan.proofs.Reader.{Right, start-right, bad-line-right, good-line-right, in-line-right, end-right, end-literals}
 use Rattle.scan.proofs.Agrees.{wrongAfter, seenAfter, agrees-none, first-wrong, marks-are}
 use Rattle.scan.proofs.Folds.{wrong-lit, seen-lit}
@@ -63,7 +63,7 @@ module _ (t : List ℕ) (top : ℕ) (seen : List ℕ) (wrong : ℕ) (m : Mode) (
   pub arrive : (m″ : Mode) (line″ said″ : ℕ) → Onward m″ line″ said″ → (l : Lit) → l ≡ eventOf m (getD t i 0) → {seen′ : List ℕ} {wrong′ count′ shut′ line′ said′ : ℕ} {m′ : Mode} → seen′ ≡ seenLit seen wrong tl top l → wrong′ ≡ wrongLit seen wrong tl top l → count′ ≡ countOf (tl .count) (tl .shut) l → shut′ ≡ shutOf (tl .shut) l → m′ ≡ m″ → line′ ≡ line″ → said′ ≡ said″ → Reached t top seen′ wrong′ m′ line′ said′ (tally count′ shut′) (i + 1)
   arrive m″ line″ said″ o l e s w c h f g k = rw (s, w, c, h, f, g, k, e) o
 
-  reached-end : i ≡ length t → top ≤ mostVariables → Done t top (toldOf (endOf t m i) line (saidOf said (endOf t m i)) (notedOf tl (litOf m))) (wrongLit seen wrong tl top (litOf m)) (seenLit seen wrong tl top (litOf m))
+  reached-end : i ≡ length t → top ≤ mostVariables → Done t top (atEnd t m i line said tl) (wrongLit seen wrong tl top (litOf m)) (seenLit seen wrong tl top (litOf m))
   reached-end e h =
       record {
         says-answer = end-right t (r .xs) m line said tl i (r .right) e;
@@ -82,5 +82,5 @@ module _ (t : List ℕ) (top : ℕ) (seen : List ℕ) (wrong : ℕ) (m : Mode) (
       wrong-at zs a = wrong-next (litOf m) ∙ ap (λ z. wrongAfter top noMarks 0 0 (before z)) (all zs a)
 
   -- and those after the loop
-  pub finish : i ≡ length t → top ≤ mostVariables → (l : Lit) → l ≡ litOf m → {seen′ : List ℕ} {wrong′ count′ shut′ code said′ : ℕ} {answer : Answer} → seen′ ≡ seenLit seen wrong tl top l → wrong′ ≡ wrongLit seen wrong tl top l → count′ ≡ countOf (tl .count) (tl .shut) l → shut′ ≡ shutOf (tl .shut) l → code ≡ endOf t m i → said′ ≡ saidOf said code → answer ≡ toldOf code line said′ (tally count′ shut′) → Done t top answer wrong′ seen′
-  finish k h l e s w c u d f a = rw (a, f, d, c, u, s, w, e) (reached-end k h)
+  pub finish : i ≡ length t → top ≤ mostVariables → (l : Lit) → l ≡ litOf m → {seen′ : List ℕ} {wrong′ : ℕ} {answer : Answer} → seen′ ≡ seenLit seen wrong tl top l → wrong′ ≡ wrongLit seen wrong tl top l → answer ≡ atEnd t m i line said tl → Done t top answer wrong′ seen′
+  finish k h l e s w a = rw (a, s, w, e) (reached-end k h)

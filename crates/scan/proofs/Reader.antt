@@ -1,50 +1,34 @@
 -- What is right of the rest of a reply is right of the whole. Assumes nothing.
 use mathlib.Core.Path.{_≡_, refl, sym, ap, subst, _∙_}
-use mathlib.Core.Bool.{Bool, true, false, cond, _&&_, _||_, false≢true, true≢false}
+use mathlib.Core.Bool.{Bool, true, false, cond, false≢true, true≢false}
 use mathlib.Core.List.{List, [], _∷_, _++_, map, append-assoc, append-nil}
 use mathlib.Core.Logic.{_⊎_, inl, inr}
-use Prim.Native.Nat.{ℕ, zero, suc, _+_, _-_, _*_, _≤_, _<_}
+use Prim.Native.Nat.{ℕ, zero, suc, _+_, _-_, _≤_, _<_}
 use native.Mathlib.Numerals.{add-one}
 use native.Mathlib.Omega.{arith}
-use lib.Dec.{eqb, leb}
+use lib.Dec.{eqb}
 use lib.ListN.{length, getD, take, drop, length-drop}
 use lib.Seq.{take-suc, getD-drop, drop-cons, drop-length}
-use borrow.Author.Tests.{eqb-true, eqb-false, eq-eqb, ne-eqb}
-use Rattle.dimacs.specs.Reply.{onto, split, same, every, digit, Word, stop, lit, decimal, isLiteral, literal, unsigned, isNumber, Status, satisfiable, unsatisfiable, unknown, text, Line, bad, quiet, says, gives, statusWord, statusLine, valueLine, tagged, lineOf, firstBad, statuses, literals, Parsed, Refused6, Sat, settle, placed, judged, answerOf}
+use borrow.Author.Tests.{ne-eqb}
+use Rattle.dimacs.specs.Reply.{onto, split, same, every, Word, decimal, isLiteral, literal, unsigned, isNumber, Status, satisfiable, unsatisfiable, unknown, text, Line, bad, quiet, says, gives, statusWord, statusLine, valueLine, tagged, lineOf, firstBad, statuses, literals, Parsed, Refused6, Sat, settle, placed, judged, answerOf}
 use Rattle.dimacs.proofs.Cut.{StatusWord, no-status, a-status, status-word-view, answer-split}
+use Rattle.dimacs.proofs.Words.{has, split-cons}
 use Rattle.dimacs.proofs.Positive.{settle-sat, placed-sat}
-use Rattle.scan.specs.Step.{onlyBlank, leading, ten, stepOf, litOf, eventOf, Tally, notedOf, numberOf, codeOf, saidOf, Inside, part, endOf, bySaid, toldOf, brief}
+use Rattle.scan.specs.Step.{leading, ten, stepOf, litOf, eventOf, Tally, notedOf, numberOf, codeOf, saidOf, Inside, part, endOf, bySaid, toldOf, brief}
 use Rattle.scan.specs.declared.Mode.{Mode}
 use Rattle.scan.specs.declared.Mode.the-variants.{Start, LetterC, Comment, LetterS, Said, LetterV, Gap, Minus, One, Two, Three, Zero, Bad}
 use Rattle.scan.specs.declared.Lit.{Lit}
 use Rattle.scan.specs.declared.Lit.the-variants.{Nothing, Stop, Var}
-use Rattle.scan.specs.declared.Answer.{Answer}
-use Rattle.scan.specs.declared.Answer.the-variants.{Refused}
 use Rattle.scan.proofs.Automaton.{numberLine, words, cut1, adds, adds-none, listOf, emits, isSaid, words-step}
-use Rattle.scan.proofs.Counts.{toLit, runs, tally, runs-append, codes, codes-more, noted-count, settle-brief}
-
-split-cons : (s : ℕ) (t : List ℕ) → (w : List ℕ) × (ws : List (List ℕ)) × (split s t ≡ w ∷ ws)
-unfolding split onto
-split-cons s [] = ([], [], refl)
-split-cons s (b ∷ t) = go (eqb b s) (split s t)
-  where
-    go : (x : Bool) (ls : List (List ℕ)) → (w : List ℕ) × (ws : List (List ℕ)) × (cond x ([] ∷ ls) (onto b ls) ≡ w ∷ ws)
-    go true ls = ([], ls, refl)
-    go false [] = (b ∷ [], [], refl)
-    go false (l ∷ ls) = (b ∷ l, ls, refl)
-
--- a blank stands in the text
-blanks : List ℕ → Bool
-blanks [] = false
-blanks (b ∷ t) = eqb b 32 || blanks t
+use Rattle.scan.proofs.Counts.{runs, tally, runs-append, codes, codes-more, noted-count, settle-brief}
 
 -- a text of one word, or of several
 data Many (t : List ℕ) : List (List ℕ) → Type 0 where
   one : Many t (t ∷ [])
-  several : (w v : List ℕ) (ws : List (List ℕ)) → blanks t ≡ true → Many t (w ∷ v ∷ ws)
+  several : (w v : List ℕ) (ws : List (List ℕ)) → has 32 t ≡ true → Many t (w ∷ v ∷ ws)
 
 many : (t : List ℕ) → Many t (split 32 t)
-unfolding split onto blanks
+unfolding split onto has
 many [] = one
 many (b ∷ t) = go (eqb b 32) refl (split-cons 32 t) (many t)
   where
@@ -56,8 +40,8 @@ many (b ∷ t) = go (eqb b 32) refl (split-cons 32 t) (many t)
         step one = one
         step (several w v ws h) = several (b ∷ w) v ws (simp e h)
 
-no-blank : (s : Status) → blanks (text s) ≡ false
-unfolding blanks text
+no-blank : (s : Status) → has 32 (text s) ≡ false
+unfolding has text
 no-blank satisfiable = refl
 no-blank unsatisfiable = refl
 no-blank unknown = refl
@@ -67,9 +51,9 @@ status-whole : (p : List ℕ) → statusLine (split 32 p) ≡ statusWord p
 unfolding statusLine
 status-whole p = go (many p)
   where
-    blanked : blanks p ≡ true → {x : Line} → StatusWord p x → bad ≡ x
+    blanked : has 32 p ≡ true → {x : Line} → StatusWord p x → bad ≡ x
     blanked h no-status = refl
-    blanked h (a-status s e) = absurd (true≢false (sym h ∙ ap blanks e ∙ no-blank s))
+    blanked h (a-status s e) = absurd (true≢false (sym h ∙ ap (has 32) e ∙ no-blank s))
 
     go : {ls : List (List ℕ)} → Many p ls → statusLine ls ≡ statusWord p
     go one = refl

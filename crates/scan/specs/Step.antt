@@ -1,9 +1,9 @@
 -- One byte of a reply, by the mode that the line is in. Assumes nothing: these are definitions.
-use Prim.Native.Nat.{ℕ, zero, suc, _+_, _-_, _*_}
+use Prim.Native.Nat.{ℕ, _+_, _-_, _*_}
 use mathlib.Core.Bool.{Bool, true, false, cond, _&&_}
 use mathlib.Core.List.{List}
 use Prim.Native.Nat.{_≤_}
-use lib.ListN.{length, getD, take, drop}
+use lib.ListN.{length, take, drop}
 use lib.Dec.{eqb, leb}
 use Rattle.scan.specs.declared.Mode.{Mode}
 use Rattle.scan.specs.declared.Mode.the-variants.{Start, LetterC, Comment, LetterS, Said, LetterV, Gap, Minus, One, Two, Three, Zero, Bad}
@@ -169,6 +169,10 @@ bySaid said t =
 -- a line not well-formed decides before the others
 unfoldable pub toldOf : ℕ → ℕ → ℕ → Tally → Answer
 toldOf code line said t = cond (eqb code 0) (Refused line) (bySaid said t)
+
+-- the text ends at the place i, and with it its last line
+abbrev pub atEnd : List ℕ → Mode → ℕ → ℕ → ℕ → Tally → Answer
+atEnd text m i line said t = toldOf (endOf text m i) line (saidOf said (endOf text m i)) (notedOf t (litOf m))
 
 -- the answer of the grammar, with the number of literals before `0`
 unfoldable pub brief : Parsed → Answer

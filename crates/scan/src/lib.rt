@@ -6,7 +6,7 @@ ghost use Prim.Native.Nat.{_≤_, _<_};
 ghost use lib.ListN.{length};
 ghost use Rattle.dimacs.specs.Clause.{mostVariables};
 ghost use Rattle.dimacs.specs.Reply.{statusWord};
-ghost use Rattle.scan.specs.Step.{startOf, onlyBlank, gapOf, minusOf, secondOf, thirdOf, stepOf, litOf, eventOf, lastNumber, countOf, shutOf, codeOf, Inside, endOf, saidOf, toldOf};
+ghost use Rattle.scan.specs.Step.{startOf, onlyBlank, gapOf, minusOf, secondOf, thirdOf, stepOf, litOf, eventOf, lastNumber, countOf, shutOf, codeOf, Inside, endOf, saidOf, toldOf, atEnd};
 ghost use Rattle.scan.specs.Marks.{wrongOf, seenOf, wrongLit, seenLit, Done};
 
 // A mark for each variable 1 to the limit of V, and one more at 0 that is not used.
@@ -134,12 +134,6 @@ pub enum Lit {
     Var(bool, usize),
 }
 
-fn wide(b: u8) -> usize
-    ensures { λ r. ⌜ (r ≡ b) × (r < 256) ⌝ }
-{
-    b as usize
-}
-
 // The literal that ends where a word ends, if one does.
 pub fn literal(m: Mode) -> Lit
     ensures { λ r. ⌜ r ≡ litOf m ⌝ }
@@ -153,9 +147,12 @@ pub fn literal(m: Mode) -> Lit
         Mode::LetterV => Lit::Nothing,
         Mode::Gap => Lit::Nothing,
         Mode::Minus => Lit::Nothing,
-        Mode::One(n, a) => Lit::Var(n, wide(a)),
-        Mode::Two(n, a, d) => Lit::Var(n, wide(a) * 10 + wide(d)),
-        Mode::Three(n, a, d, e) => Lit::Var(n, (wide(a) * 10 + wide(d)) * 10 + wide(e)),
+        Mode::One(n, a) => Lit::Var(n, text::wide(a)),
+        Mode::Two(n, a, d) => Lit::Var(n, text::wide(a) * 10 + text::wide(d)),
+        Mode::Three(n, a, d, e) => Lit::Var(
+            n,
+            (text::wide(a) * 10 + text::wide(d)) * 10 + text::wide(e),
+        ),
         Mode::Zero => Lit::Stop,
         Mode::Bad => Lit::Nothing,
     }
@@ -291,6 +288,31 @@ pub fn told(code: u8, line: usize, said: u8, count: usize, shut: u8) -> Answer
     }
 }
 
+// The text ends at the place i, and with it its last line.
+pub fn at_end(
+    text: &[u8],
+    m: Mode,
+    i: usize,
+    line: usize,
+    said: u8,
+    count: usize,
+    shut: u8,
+) -> Answer
+    requires { ⌜ (i ≤ length (now text)) × Inside m i × (count < lastNumber) ⌝ }
+    ensures { λ r. ⌜ r ≡ atEnd (now (text .entry)) m i line said (record { count = count; shut = shut }) ⌝ }
+{
+    let l = literal(m);
+    let code = ended(text, m, i);
+    let after = said_after(said, code);
+    told(
+        code,
+        line,
+        after,
+        count_after(count, shut, l),
+        shut_after(shut, l),
+    )
+}
+
 // The literal at a position, negated or not, of the variable v, where the variables are 1 to top. wrong is the first position that
 // was too large or seen before, or 0, and is returned anew; seen has at v 0 for not seen, 1 for plain, 2 for negated.
 pub fn mark(
@@ -374,9 +396,8 @@ pub fn read(text: &[u8], top: usize) -> Reading
         shut = shut_after(shut, l);
         if b == 10 {
             let code = ended(text, m, i);
-            if code == 0 {
-                m = Mode::Bad;
-            } else {
+            m = Mode::Bad;
+            if code != 0 {
                 m = Mode::Start;
                 line += 1;
                 said = said_after(said, code);
@@ -386,12 +407,8 @@ pub fn read(text: &[u8], top: usize) -> Reading
         }
         i += 1;
     }
-    let l = literal(m);
-    wrong = mark_literal(&mut seen, wrong, count, shut, top, l);
-    count = count_after(count, shut, l);
-    shut = shut_after(shut, l);
-    let code = ended(text, m, i);
-    let a = told(code, line, said_after(said, code), count, shut);
+    wrong = mark_literal(&mut seen, wrong, count, shut, top, literal(m));
+    let a = at_end(text, m, i, line, said, count, shut);
     Reading {
         answer: a,
         wrong,

@@ -3,38 +3,28 @@ use borrow.Author.Tests.{ne-eqb, eq-eqb}
 use borrow.Author.Needs.{needs}
 use Rattle.scan.proofs.count_after.Statement.{statement}
 use Rattle.scan.proofs.count_after.Tie as tie
-use Rattle.scan.proofs.count_after.Reads as reads
-use Rattle.scan.proofs.count_after.Lts as lts
 
--- src/lib.rt:234:25
 enum-told : tie.Need-enum-told
 enum-told c = search needs
 
--- src/lib.rt:235:22
 enum-told-2 : tie.Need-enum-told-2
 enum-told-2 c = search needs
 
--- src/lib.rt:237:16
 enum-told-3 : tie.Need-enum-told-3
 enum-told-3 c = search needs
 
--- src/lib.rt:238:17
 add-result : tie.Need-add-result
 add-result c = search needs
 
--- src/lib.rt:229:1
 returns : tie.Need-returns
 returns c = search needs
 
--- src/lib.rt:229:1
 returns-2 : tie.Need-returns-2
 returns-2 c = search needs
 
--- src/lib.rt:229:1
 returns-3 : tie.Need-returns-3
 returns-3 c = rw (c .before .enum-told3 .given .1) (simp (eq-eqb _ _ (c .if1 .taken)))
 
--- src/lib.rt:229:1
 returns-4 : tie.Need-returns-4
 returns-4 c = rw (c .before .enum-told3 .given .1) (simp (ne-eqb _ _ (c .if1 .left)))
 

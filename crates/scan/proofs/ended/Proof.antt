@@ -1,130 +1,97 @@
 -- `scan::ended` meets its contract: arm by arm, the definition itself; a status word starts before the place reached (Inside).
-use mathlib.Core.Path.{_≡_, subst}
+use mathlib.Core.Path.{subst}
 use Rattle.scan.specs.Step.{Inside}
 use borrow.Author.Needs.{needs}
 use Rattle.scan.proofs.ended.Statement.{statement}
 use Rattle.scan.proofs.ended.Tie as tie
-use Rattle.scan.proofs.ended.Reads as reads
-use Rattle.scan.proofs.ended.Lts as lts
-use Rattle.scan.proofs.status.Reads as status-reads
 
--- src/lib.rt:199:24
 enum-told : tie.Need-enum-told
 enum-told c = search needs
 
--- src/lib.rt:200:26
 enum-told-2 : tie.Need-enum-told-2
 enum-told-2 c = search needs
 
--- src/lib.rt:201:26
 enum-told-3 : tie.Need-enum-told-3
 enum-told-3 c = search needs
 
--- src/lib.rt:202:26
 enum-told-4 : tie.Need-enum-told-4
 enum-told-4 c = search needs
 
--- src/lib.rt:203:20
 enum-known-m : tie.Need-enum-known-m
 enum-known-m c = search needs
 
--- src/lib.rt:203:36
 sub-status : tie.Need-sub-status
 sub-status c = subst (λ m. Inside m (c .before .before .before .before .args .i)) (c .before .m .given .1) (c .before .before .before .before .pre .1)
 
--- src/lib.rt:203:36
 part-status-start : tie.Need-part-status-start
 part-status-start c = subst (λ m. Inside m (c .before .before .before .before .args .i)) (c .before .m .given .1) (c .before .before .before .before .pre .1)
 
--- src/lib.rt:203:36
 part-status-end : tie.Need-part-status-end
 part-status-end c = search needs
 
--- src/lib.rt:203:29
 status-requires : tie.Need-status-requires
 status-requires c κs = search needs
 
--- src/lib.rt:204:26
 enum-told-5 : tie.Need-enum-told-5
 enum-told-5 c = search needs
 
--- src/lib.rt:205:22
 enum-told-6 : tie.Need-enum-told-6
 enum-told-6 c = search needs
 
--- src/lib.rt:206:24
 enum-told-7 : tie.Need-enum-told-7
 enum-told-7 c = search needs
 
--- src/lib.rt:207:28
 enum-told-8 : tie.Need-enum-told-8
 enum-told-8 c = search needs
 
--- src/lib.rt:208:31
 enum-told-9 : tie.Need-enum-told-9
 enum-told-9 c = search needs
 
--- src/lib.rt:209:36
 enum-told-10 : tie.Need-enum-told-10
 enum-told-10 c = search needs
 
--- src/lib.rt:210:23
 enum-told-11 : tie.Need-enum-told-11
 enum-told-11 c = search needs
 
--- src/lib.rt:211:22
 enum-told-12 : tie.Need-enum-told-12
 enum-told-12 c = search needs
 
--- src/lib.rt:194:1
 returns : tie.Need-returns
 returns c = search needs
 
--- src/lib.rt:194:1
 returns-2 : tie.Need-returns-2
 returns-2 c = search needs
 
--- src/lib.rt:194:1
 returns-3 : tie.Need-returns-3
 returns-3 c = search needs
 
--- src/lib.rt:194:1
 returns-4 : tie.Need-returns-4
 returns-4 c = search needs
 
--- src/lib.rt:194:1
 returns-5 : tie.Need-returns-5
 returns-5 c = rw (c .before .before .before .m .given .1) (c .status .ensures)
 
--- src/lib.rt:194:1
 returns-6 : tie.Need-returns-6
 returns-6 c = search needs
 
--- src/lib.rt:194:1
 returns-7 : tie.Need-returns-7
 returns-7 c = search needs
 
--- src/lib.rt:194:1
 returns-8 : tie.Need-returns-8
 returns-8 c = search needs
 
--- src/lib.rt:194:1
 returns-9 : tie.Need-returns-9
 returns-9 c = search needs
 
--- src/lib.rt:194:1
 returns-10 : tie.Need-returns-10
 returns-10 c = search needs
 
--- src/lib.rt:194:1
 returns-11 : tie.Need-returns-11
 returns-11 c = search needs
 
--- src/lib.rt:194:1
 returns-12 : tie.Need-returns-12
 returns-12 c = search needs
 
--- src/lib.rt:194:1
 returns-13 : tie.Need-returns-13
 returns-13 c = search needs
 

@@ -1,3 +1,4 @@
+-- `scan::mark` meets its contract: each way through the tests is a clause of the definition.
 use mathlib.Core.Bool.{true, false}
 use denote.Ref.{now}
 use Rattle.scan.proofs.Agrees.{seen-new}
@@ -6,44 +7,34 @@ use Rattle.scan.specs.Marks.{wrongOf, seenOf}
 use borrow.Author.Needs.{needs}
 use Rattle.scan.proofs.mark.Statement.{statement}
 use Rattle.scan.proofs.mark.Tie as tie
-use Rattle.scan.proofs.mark.Reads as reads
-use Rattle.scan.proofs.mark.Lts as lts
 
--- src/lib.rt:14:9
 returns : tie.Need-returns
 unfolding wrongOf seenOf
 returns c = (simp (ne-eqb _ _ (c .if1 .taken)), simp (ne-eqb _ _ (c .if1 .taken)))
 
--- src/lib.rt:17:9
 returns-2 : tie.Need-returns-2
 unfolding wrongOf seenOf
 returns-2 c = (simp (eq-eqb _ _ (c .before .if1 .left), lt-ltb _ _ (c .if2 .taken)), simp (eq-eqb _ _ (c .before .if1 .left), lt-ltb _ _ (c .if2 .taken)))
 
--- src/lib.rt:19:8
 element-copy-out-if3 : tie.Need-element-copy-out-if3
 element-copy-out-if3 c = search needs
 
--- src/lib.rt:20:9
 returns-3 : tie.Need-returns-3
 unfolding wrongOf seenOf
 returns-3 c = (simp (eq-eqb _ _ (c .before .before .before .if1 .left), le-ltb _ _ (c .before .before .if2 .left), ne-eqb _ _ (c .if3 .taken)), simp (eq-eqb _ _ (c .before .before .before .if1 .left), le-ltb _ _ (c .before .before .if2 .left), ne-eqb _ _ (c .if3 .taken)))
 
--- src/lib.rt:23:9
 element-write-seen : tie.Need-element-write-seen
 element-write-seen c = search needs
 
--- src/lib.rt:25:9
 element-write-seen-2 : tie.Need-element-write-seen-2
 element-write-seen-2 c = search needs
 
--- src/lib.rt:9:1
 returns-4 : tie.Need-returns-4
 unfolding wrongOf seenOf
 returns-4 c =
     let a = c .before .before .before .before .before .args in
     (simp (eq-eqb _ _ (c .before .before .before .before .if1 .left), le-ltb _ _ (c .before .before .before .if2 .left), eq-eqb _ _ (c .before .if3 .left)), seen-new (now (a .seen)) (a .wrong) (a .top) (a .negated) true (a .v) (c .before .before .before .before .if1 .left) (c .before .before .before .if2 .left) (c .before .if3 .left) (c .if4 .taken))
 
--- src/lib.rt:9:1
 returns-5 : tie.Need-returns-5
 unfolding wrongOf seenOf
 returns-5 c =

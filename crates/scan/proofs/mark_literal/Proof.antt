@@ -7,41 +7,30 @@ use Rattle.scan.proofs.Folds.{var-wrong, var-seen, var-wrong-shut, var-
 use borrow.Author.Needs.{needs}
 use Rattle.scan.proofs.mark_literal.Statement.{statement}
 use Rattle.scan.proofs.mark_literal.Tie as tie
-use Rattle.scan.proofs.mark_literal.Reads as reads
-use Rattle.scan.proofs.mark_literal.Lts as lts
-use Rattle.scan.proofs.mark.Reads as mark-reads
 
--- src/lib.rt:62:25
 enum-told : tie.Need-enum-told
 enum-told c = search needs
 
--- src/lib.rt:63:22
 enum-told-2 : tie.Need-enum-told-2
 enum-told-2 c = search needs
 
--- src/lib.rt:64:18
 enum-known-l : tie.Need-enum-known-l
 enum-known-l c = search needs
 
--- src/lib.rt:66:35
 add-mark : tie.Need-add-mark
 add-mark c = search needs
 
--- src/lib.rt:66:17
 mark-requires : tie.Need-mark-requires
 mark-requires c κs = search needs
 
--- src/lib.rt:57:1
 returns : tie.Need-returns
 unfolding wrongLit seenLit
 returns c = (rw (c .enum-told .given .1) refl, rw (c .enum-told .given .1) refl)
 
--- src/lib.rt:57:1
 returns-2 : tie.Need-returns-2
 unfolding wrongLit seenLit
 returns-2 c = (rw (c .enum-told2 .given .1) refl, rw (c .enum-told2 .given .1) refl)
 
--- src/lib.rt:57:1
 returns-3 : tie.Need-returns-3
 returns-3 c =
     let a = c .before .before .before .before .before .before .args in
@@ -49,7 +38,6 @@ returns-3 c =
     let t : Tally = record { count = a .count; shut = a .shut } in
     (c .mark .ensures .0 ∙ var-wrong (now (a .seen)) (a .wrong) t (a .top) (a .l) _ _ e (c .before .before .if1 .taken), c .mark .ensures .1 ∙ var-seen (now (a .seen)) (a .wrong) t (a .top) (a .l) _ _ e (c .before .before .if1 .taken))
 
--- src/lib.rt:57:1
 returns-4 : tie.Need-returns-4
 returns-4 c =
     let a = c .before .before .before .before .args in

@@ -2,7 +2,7 @@
 -- so far are counted and marked (Marked); at the end they are the answer's.
 use Prim.Native.Nat.{_≤_, _<_, _-_}
 use native.Mathlib.Omega.{arith}
-use mathlib.Core.Path.{_≡_, sym, ap, _∙_}
+use mathlib.Core.Path.{sym, ap, _∙_}
 use mathlib.Core.Logic.{⊎-elim}
 use lib.ListN.{length}
 use borrow.Author.Needs.{needs}
@@ -10,17 +10,6 @@ use Rattle.scan.specs.Step.{Tally, saidOf}
 use Rattle.scan.proofs.Marked.{Reached, reached-start, reached-bad, reached-line, reached-byte, arrive, finish}
 use Rattle.scan.proofs.read.Statement.{statement}
 use Rattle.scan.proofs.read.Tie as tie
-use Rattle.scan.proofs.read.Reads as reads
-use Rattle.scan.proofs.read.Lts as lts
-use Rattle.scan.proofs.count_after.Reads as count-after-reads
-use Rattle.scan.proofs.ended.Reads as ended-reads
-use Rattle.scan.proofs.event.Reads as event-reads
-use Rattle.scan.proofs.literal.Reads as literal-reads
-use Rattle.scan.proofs.mark_literal.Reads as mark-literal-reads
-use Rattle.scan.proofs.said_after.Reads as said-after-reads
-use Rattle.scan.proofs.shut_after.Reads as shut-after-reads
-use Rattle.scan.proofs.step.Reads as step-reads
-use Rattle.scan.proofs.told.Reads as told-reads
 
 abbrev Inv-loop : tie.InvT-loop
 Inv-loop text top seen₀ wrong₀ m₀ line₀ said₀ count₀ shut₀ i₀ seen wrong m line said count shut i =
@@ -29,59 +18,45 @@ Inv-loop text top seen₀ wrong₀ m₀ line₀ said₀ count₀ shut₀ i₀ se
 abbrev μ-loop : tie.MeasureT-loop
 μ-loop text top seen₀ wrong₀ m₀ line₀ said₀ count₀ shut₀ i₀ seen wrong m line said count shut i = length text - i
 
--- src/lib.rt:387:5
 loop-holds : tie.Need-loop-holds Inv-loop μ-loop
 loop-holds c = (search needs, reached-start _ _)
 
--- src/lib.rt:388:17
 shared-slice-read-b : tie.Need-shared-slice-read-b Inv-loop μ-loop
 shared-slice-read-b c = search needs
 
--- src/lib.rt:389:13
 event-requires : tie.Need-event-requires Inv-loop μ-loop
 event-requires c κs = search needs
 
--- src/lib.rt:390:9
 mark-literal-requires : tie.Need-mark-literal-requires Inv-loop μ-loop
 mark-literal-requires c κs = search needs
 
--- src/lib.rt:391:9
 count-after-requires : tie.Need-count-after-requires Inv-loop μ-loop
 count-after-requires c κs = search needs
 
--- src/lib.rt:392:9
 shut-after-requires : tie.Need-shut-after-requires Inv-loop μ-loop
 shut-after-requires c κs = search needs
 
--- src/lib.rt:394:17
 ended-requires : tie.Need-ended-requires Inv-loop μ-loop
 ended-requires c κs = search needs
 
--- src/lib.rt:399:17
 add-line : tie.Need-add-line Inv-loop μ-loop
 add-line c = search needs
 
--- src/lib.rt:400:17
 said-after-requires : tie.Need-said-after-requires Inv-loop μ-loop
 said-after-requires c κs = search needs
 
--- src/lib.rt:403:28
 add-step : tie.Need-add-step Inv-loop μ-loop
 add-step c = search needs
 
--- src/lib.rt:403:13
 step-requires : tie.Need-step-requires Inv-loop μ-loop
 step-requires c κs = search needs
 
--- src/lib.rt:405:9
 add-i : tie.Need-add-i Inv-loop μ-loop
 add-i c = search needs
 
--- src/lib.rt:387:5
 loop-less : tie.Need-loop-less Inv-loop μ-loop
 loop-less c = search needs
 
--- src/lib.rt:387:5
 loop-again : tie.Need-loop-again Inv-loop μ-loop
 loop-again c =
     let a = c .before .before .before .before .before .before .before .before .before .before .args in
@@ -96,52 +71,29 @@ loop-again c =
     let r = l .inv .1 in (
       search needs,
       ⊎-elim
-          (λ w. arrive t (a .top) (l .seen) (l .wrong) (l .m) (l .line) (l .said) tl (l .i) r _ _ _ (reached-bad t (a .top) (l .seen) (l .wrong) (l .m) (l .line) (l .said) tl (l .i) r here (w .0 .taken) (sym (w .1 .ensures) ∙ w .2 .taken)) _ v (k .1) (k .0) n s (w .3) (w .4) (w .5))
+          (λ w. arrive t (a .top) (l .seen) (l .wrong) (l .m) (l .line) (l .said) tl (l .i) r _ _ _ (reached-line t (a .top) (l .seen) (l .wrong) (l .m) (l .line) (l .said) tl (l .i) r here (w .0 .taken) (λ e. w .2 .taken (w .1 .ensures ∙ e))) _ v (k .1) (k .0) n s (w .4) (w .5) (w .6 ∙ w .3 .ensures ∙ ap (saidOf (l .said)) (w .1 .ensures)))
           (⊎-elim
-          (λ w. arrive t (a .top) (l .seen) (l .wrong) (l .m) (l .line) (l .said) tl (l .i) r _ _ _ (reached-line t (a .top) (l .seen) (l .wrong) (l .m) (l .line) (l .said) tl (l .i) r here (w .0 .taken) (λ e. w .2 .left (w .1 .ensures ∙ e))) _ v (k .1) (k .0) n s (w .4) (w .5) (w .6 ∙ w .3 .ensures ∙ ap (saidOf (l .said)) (w .1 .ensures)))
+          (λ w. arrive t (a .top) (l .seen) (l .wrong) (l .m) (l .line) (l .said) tl (l .i) r _ _ _ (reached-bad t (a .top) (l .seen) (l .wrong) (l .m) (l .line) (l .said) tl (l .i) r here (w .0 .taken) (sym (w .1 .ensures) ∙ w .2 .left)) _ v (k .1) (k .0) n s (w .3) (w .4) (w .5))
           (λ w. arrive t (a .top) (l .seen) (l .wrong) (l .m) (l .line) (l .said) tl (l .i) r _ _ _ (reached-byte t (a .top) (l .seen) (l .wrong) (l .m) (l .line) (l .said) tl (l .i) r here (w .0 .left)) _ v (k .1) (k .0) n s (w .2 ∙ w .1 .ensures) (w .3) (w .4)))
           (c .if1 .came),
     )
 
--- src/lib.rt:407:9
 literal-requires : tie.Need-literal-requires Inv-loop μ-loop
 literal-requires c κs = search needs
 
--- src/lib.rt:408:5
 mark-literal-requires-2 : tie.Need-mark-literal-requires-2 Inv-loop μ-loop
 mark-literal-requires-2 c κs = search needs
 
--- src/lib.rt:409:5
-count-after-requires-2 : tie.Need-count-after-requires-2 Inv-loop μ-loop
-count-after-requires-2 c κs = search needs
+at-end-requires : tie.Need-at-end-requires Inv-loop μ-loop
+at-end-requires c κs = search needs
 
--- src/lib.rt:410:5
-shut-after-requires-2 : tie.Need-shut-after-requires-2 Inv-loop μ-loop
-shut-after-requires-2 c κs = search needs
-
--- src/lib.rt:411:9
-ended-requires-2 : tie.Need-ended-requires-2 Inv-loop μ-loop
-ended-requires-2 c κs = search needs
-
--- src/lib.rt:412:30
-said-after-requires-2 : tie.Need-said-after-requires-2 Inv-loop μ-loop
-said-after-requires-2 c κs = search needs
-
--- src/lib.rt:412:9
-told-requires : tie.Need-told-requires Inv-loop μ-loop
-told-requires c κs = search needs
-
--- src/lib.rt:375:1
 returns : tie.Need-returns Inv-loop μ-loop
 returns c =
-    let a = c .before .before .before .before .before .before .before .before .before .before .before .args in
-    let l = c .before .before .before .before .before .before .before .before .before .loop in
+    let a = c .before .before .before .before .before .before .before .args in
+    let l = c .before .before .before .before .before .loop in
     let tl : Tally = record { count = l .count; shut = l .shut } in
-    let k = c .before .before .before .before .before .mark-literal2 .ensures in
-    finish (a .text .now) (a .top) (l .seen) (l .wrong) (l .m) (l .line) (l .said) tl (l .i) (l .inv .1) (omega arith) (search needs) _
-    (c .before .before .before .before .before .before .before .literal .ensures) (k .1) (k .0)
-    (c .before .before .before .before .count-after2 .ensures) (c .before .before .before .shut-after2 .ensures)
-    (c .before .before .ended2 .ensures) (c .before .said-after2 .ensures) (c .told .ensures)
+    let k = c .before .mark-literal2 .ensures in
+    finish (a .text .now) (a .top) (l .seen) (l .wrong) (l .m) (l .line) (l .said) tl (l .i) (l .inv .1) (omega arith) (search needs) _ (c .before .before .literal .ensures) (k .1) (k .0) (c .at-end .ensures)
 
 pub read-spec : {M : Type 1} → statement M
 read-spec =
@@ -165,9 +117,5 @@ read-spec =
     loop-again
     literal-requires
     mark-literal-requires-2
-    count-after-requires-2
-    shut-after-requires-2
-    ended-requires-2
-    said-after-requires-2
-    told-requires
+    at-end-requires
     returns)

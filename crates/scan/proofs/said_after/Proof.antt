@@ -2,18 +2,13 @@
 use borrow.Author.Tests.{ne-eqb, eq-eqb}
 use Rattle.scan.proofs.said_after.Statement.{statement}
 use Rattle.scan.proofs.said_after.Tie as tie
-use Rattle.scan.proofs.said_after.Reads as reads
-use Rattle.scan.proofs.said_after.Lts as lts
 
--- src/lib.rt:220:9
 returns : tie.Need-returns
 returns c = simp (eq-eqb _ _ (c .if1 .taken))
 
--- src/lib.rt:223:9
 returns-2 : tie.Need-returns-2
 returns-2 c = simp (ne-eqb _ _ (c .before .if1 .left), eq-eqb _ _ (c .if2 .taken))
 
--- src/lib.rt:216:1
 returns-3 : tie.Need-returns-3
 returns-3 c = simp (ne-eqb _ _ (c .before .if1 .left), ne-eqb _ _ (c .if2 .left))
 

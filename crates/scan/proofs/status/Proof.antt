@@ -1,3 +1,4 @@
+-- `scan::status` meets its contract: a word is one of the three texts or none of them (Codes).
 use mathlib.Core.Path.{sym, _∙_}
 use mathlib.Core.Bool.{true≢false}
 use Rattle.dimacs.specs.Reply.{satisfiable, unsatisfiable, unknown, text}
@@ -5,50 +6,37 @@ use Rattle.scan.proofs.Codes.{word-code, no-code}
 use borrow.Author.Needs.{needs}
 use Rattle.scan.proofs.status.Statement.{statement}
 use Rattle.scan.proofs.status.Tie as tie
-use Rattle.scan.proofs.status.Reads as reads
-use Rattle.scan.proofs.status.Lts as lts
-use Rattle.check.proofs.same.Reads as same-reads
 
--- src/lib.rt:189:23
 slice-aggregate-same : tie.Need-slice-aggregate-same
 slice-aggregate-same c = search needs
 
--- src/lib.rt:189:8
 same-requires : tie.Need-same-requires
 same-requires c κs = search needs
 
--- src/lib.rt:190:9
 returns : tie.Need-returns
 unfolding text
 returns c = word-code satisfiable _ (c .before .same .ensures .0 (c .if1 .taken))
 
--- src/lib.rt:192:23
 slice-aggregate-same-2 : tie.Need-slice-aggregate-same-2
 slice-aggregate-same-2 c = search needs
 
--- src/lib.rt:192:8
 same-requires-2 : tie.Need-same-requires-2
 same-requires-2 c κs = search needs
 
--- src/lib.rt:193:9
 returns-2 : tie.Need-returns-2
 unfolding text
 returns-2 c = word-code unsatisfiable _ (c .before .same2 .ensures .0 (c .if2 .taken))
 
--- src/lib.rt:195:23
 slice-aggregate-same-3 : tie.Need-slice-aggregate-same-3
 slice-aggregate-same-3 c = search needs
 
--- src/lib.rt:195:8
 same-requires-3 : tie.Need-same-requires-3
 same-requires-3 c κs = search needs
 
--- src/lib.rt:196:9
 returns-3 : tie.Need-returns-3
 unfolding text
 returns-3 c = word-code unknown _ (c .before .same3 .ensures .0 (c .if3 .taken))
 
--- src/lib.rt:186:1
 returns-4 : tie.Need-returns-4
 unfolding text
 returns-4 c =
