@@ -1,0 +1,3 @@
+pub mod Lined
+pub mod Writes
+pub mod Export
