@@ -1,0 +1,4 @@
+pub mod Walking
+pub mod Coding
+pub mod Beyond
+pub mod Meaning

@@ -1,0 +1,9 @@
+pub mod Rows
+pub mod Spelling
+pub mod Bridge
+pub mod Weighing
+pub mod Answering
+pub mod Entry
+pub mod Exact
+pub mod Cut
+pub mod Determined

@@ -1,0 +1,82 @@
+-- The file is read first; a job's file and a buffer with room leave the answer to the text.
+use mathlib.Core.Path.{sym, subst}
+use Rattle.reply.specs.Replies.{Replies}
+use Rattle.reply.proofs.Entry.{out-file, out-room, call-is, out-text}
+use borrow.Author.Needs.{needs}
+use Rattle.reply.proofs.reply.Statement.{statement}
+use Rattle.reply.proofs.reply.Tie as tie
+
+read-job-requires : tie.Need-read-job-requires
+read-job-requires c κs = search needs
+
+enum-known-n : tie.Need-enum-known-n
+enum-known-n c = search needs
+
+refused-requires : tie.Need-refused-requires
+refused-requires c κs = search needs
+
+enum-known-t : tie.Need-enum-known-t
+enum-known-t c = search needs
+
+wide-requires : tie.Need-wide-requires
+wide-requires c κs = search needs
+
+refused-requires-2 : tie.Need-refused-requires-2
+refused-requires-2 c κs = search needs
+
+returns : tie.Need-returns
+returns c =
+    let w = c .before .before in
+    let g = w .before .before .t .given in
+    let x = w .before .before .before .before in
+    let s = x .before .before .before .before in
+    let n = g .0 in
+    subst (λ r. Replies (s .args .file .now) (s .args .text .now) (s .args .labels .now) r (s .args .labels .now)) (sym (c .refused2 .ensures))
+    (out-room (s .args .file .now) (s .args .text .now) (s .args .labels .now) (x .read-job .result) (x .read-job .ensures) (n .0) (n .1 .0) (n .1 .1 .0) (n .1 .1 .1 .0) (w .wide .result) (g .1) (w .wide .ensures .0) (c .before .if1 .taken))
+
+by-text-requires : tie.Need-by-text-requires
+by-text-requires c κs =
+    let w = c .before .before in
+    let g = w .before .before .t .given in
+    let x = w .before .before .before .before in
+    let s = x .before .before .before .before in
+    let n = g .0 in
+    call-is (s .args .file .now) (s .args .text .now) (s .args .labels .now) (x .read-job .result) (x .read-job .ensures) (n .0) (n .1 .0) (n .1 .1 .0) (n .1 .1 .1 .0) (w .wide .result) (g .1) (w .wide .ensures .0) (c .before .if1 .left)
+
+returns-2 : tie.Need-returns-2
+returns-2 c =
+    let g = c .before .before .n .given in
+    let x = c .before .before .before .before in
+    let s = x .before .before .before .before in
+    subst (λ r. Replies (s .args .file .now) (s .args .text .now) (s .args .labels .now) r (s .args .labels .now)) (sym (c .refused .ensures))
+    (out-file (s .args .file .now) (s .args .text .now) (s .args .labels .now) (x .read-job .result) (x .read-job .ensures) (g .0 .0) (g .0 .1 .0) (g .1))
+
+same-length : tie.Need-same-length
+same-length c = search needs
+
+returns-3 : tie.Need-returns-3
+returns-3 c =
+    let l = c .before .before in
+    let e = l .before .before in
+    let w = e .before in
+    let g = w .before .before .t .given in
+    let x = w .before .before .before .before in
+    let s = x .before .before .before .before in
+    let n = g .0 in
+    out-text (s .args .file .now) (s .args .text .now) (s .args .labels .now) (x .read-job .result) (x .read-job .ensures) (n .0) (n .1 .0) (n .1 .1 .0) (n .1 .1 .1 .0) (w .wide .result) (g .1) (w .wide .ensures .0) (e .if1 .left) (l .by-text .result) _ (l .by-text .ensures)
+
+pub reply-spec : {M : Type 1} → statement M
+reply-spec =
+    tie.close
+    (tie.spec
+    read-job-requires
+    enum-known-n
+    refused-requires
+    enum-known-t
+    wide-requires
+    refused-requires-2
+    returns
+    by-text-requires
+    returns-2
+    same-length
+    returns-3)
