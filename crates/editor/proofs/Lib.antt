@@ -1,0 +1,3 @@
+pub mod Core
+pub mod Records
+pub mod Answers

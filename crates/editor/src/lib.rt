@@ -1,0 +1,83 @@
+// The editor's entry for P1: a lent list of records, each with left, right and mark, routed as the file with those connections is.
+// Document 01, "The job file". A thin walk copies the records to the bytes that the covered core reads.
+ghost use mathlib.Core.Path.{_≡_};
+ghost use Rattle.editor.specs.Edits.{blank, placed, gathered, RoutesBytes, Edits};
+use channel::MOST_CONNECTIONS;
+use jobfile::CONNECTION;
+use part::P1_FILE;
+use part::Written;
+use part::write_p1;
+use route::Verdict;
+use route::route;
+
+// The bytes of the most connections, and of P1's file with them.
+const BYTES: usize = CONNECTION * MOST_CONNECTIONS;
+
+const FILE: usize = P1_FILE + BYTES;
+
+#[repr(C)]
+pub struct Connection {
+    pub left: u8,
+    pub right: u8,
+    pub mark: u8,
+}
+
+// A connection's bytes at their place. One more than the most connections has none.
+fn put_connection(bytes: [u8; BYTES], i: usize, c: Connection) -> [u8; BYTES]
+    ensures { λ r. ⌜ r ≡ placed bytes i c ⌝ }
+{
+    let mut a = bytes;
+    if MOST_CONNECTIONS <= i {
+        return a;
+    }
+    let at = CONNECTION * i;
+    a[at] = c.left;
+    a[at + 1] = c.right;
+    a[at + 2] = c.mark;
+    a
+}
+
+// The bytes of all connections, from the front.
+fn gather(connections: &[Connection]) -> [u8; BYTES]
+    ensures { λ r. ⌜ r ≡ gathered (now (connections .entry)) 0 blank ⌝ }
+{
+    let mut a = [0u8; BYTES];
+    let mut i = 0;
+    while i < connections.len() {
+        a = put_connection(a, i, connections[i]);
+        i += 1;
+    }
+    a
+}
+
+// The core: refuses by 2 and 5, or writes P1's file and routes it.
+fn route_bytes(
+    labels: &mut [u8],
+    bytes: [u8; BYTES],
+    count: usize,
+    limit: u32,
+    budget: u32,
+) -> Verdict
+    ensures { λ v. ⌜ RoutesBytes bytes count limit budget (now (labels .entry)) v (now (labels .exit)) ⌝ }
+{
+    if MOST_CONNECTIONS < count {
+        return Verdict::Refused {
+            number: 2,
+            place: 0,
+        };
+    }
+    let end = CONNECTION * count;
+    let mut file = [0u8; FILE];
+    match write_p1(&bytes[..end], limit, &mut file) {
+        Written::File(size) => route(&file[..size], budget, labels),
+        Written::Refused { number, place } => Verdict::Refused { number, place },
+    }
+}
+
+// The editor's entry: the records are taken apart, and the core does the work.
+pub fn route_p1(connections: &[Connection], limit: u32, budget: u32, labels: &mut [u8]) -> Verdict
+    ensures { λ v. ⌜ Edits (now (connections .entry)) limit budget (now (labels .entry)) v (now (labels .exit)) ⌝ }
+{
+    let bytes = gather(connections);
+    route_bytes(labels, bytes, connections.len(), limit, budget)
+}

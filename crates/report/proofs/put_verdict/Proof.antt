@@ -1,0 +1,29 @@
+-- Three texts, one after the other. Assumes nothing.
+use Rattle.text.proofs.Writing.{then}
+use Rattle.report.specs.Report.{verdictText}
+use borrow.Author.Needs.{needs}
+use Rattle.report.proofs.put_verdict.Statement.{statement}
+use Rattle.report.proofs.put_verdict.Tie as tie
+
+put-text-requires : tie.Need-put-text-requires
+put-text-requires c κs = search needs
+
+put-digits-requires : tie.Need-put-digits-requires
+put-digits-requires c κs = search needs
+
+put-requires : tie.Need-put-requires
+put-requires c κs = search needs
+
+same-length : tie.Need-same-length
+same-length c = search needs
+
+returns : tie.Need-returns
+unfolding verdictText
+returns c =
+    let e = c .before .before in
+    let d = e .before .before .before .before in
+    (then (then (d .before .before .before .before .put-text .ensures) (d .put-digits .ensures .0)) (e .put .ensures), search needs)
+
+pub put-verdict-spec : {M : Type 1} → statement M
+put-verdict-spec =
+    tie.close (tie.spec put-text-requires put-digits-requires put-requires same-length returns)
