@@ -5,8 +5,11 @@ ghost use Rattle.channel.specs.Label.{codeOf, labelOf};
 
 // The limits, as specs/Limits.antt has them.
 pub const MOST_TRACKS: usize = 36;
+
 pub const MOST_CONNECTIONS: usize = 64;
+
 pub const MOST_LIMIT: usize = 32;
+
 pub const MOST_SEGMENTS: usize = 32;
 
 // A track's label, 1 to T. Files and routings carry labels.

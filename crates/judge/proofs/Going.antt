@@ -1,15 +1,14 @@
 -- The walk over the labels: where it stands, one step of it, and the ways out. The marks are those of the labels passed, which are a legal partial routing. Assumes nothing.
-use mathlib.Core.Path.{_≡_, refl, ap, sym, subst, _∙_}
+use mathlib.Core.Path.{_≡_, refl, sym, _∙_}
 use mathlib.Core.Bool.{Bool, true, false, not}
-use mathlib.Core.List.{List, [], _∷_, _++_}
-use Prim.Native.Nat.{ℕ, zero, suc, _+_, _≤_, _<_}
+use mathlib.Core.List.{List}
+use Prim.Native.Nat.{ℕ, _+_, _≤_, _<_}
 use native.Mathlib.Omega.{arith}
 use borrow.Author.Tests.{not-true, not-false}
 use lib.ListN.{length, getD, take, replicate}
 use lib.Seq.{length-take-le}
-use Rattle.refusals.specs.Table.{FirstBroken, Searched, all-keep, one-breaks}
-use Rattle.channel.specs.Channel.{Job, T, M}
-use Rattle.channel.specs.Valid.{Valid}
+use Rattle.refusals.specs.Table.{Searched, all-keep, one-breaks}
+use Rattle.channel.specs.Channel.{T, M}
 use Rattle.channel.specs.Routing.{routings}
 use Rattle.jobfile.specs.Rows.{tOf, mOf, jobOf}
 use Rattle.jobfile.specs.Reads.{Facts}

@@ -1,17 +1,16 @@
 -- Laws of the judge: a label that is kept is one that fits; the judgements, one law for each way out. Assumes nothing.
 use mathlib.Core.Path.{_≡_, refl, ap, sym, subst, _∙_}
-use mathlib.Core.Bool.{Bool, true, false, not, _&&_}
+use mathlib.Core.Bool.{true, false, not, _&&_}
 use mathlib.Core.List.{List, [], _∷_, _++_}
 use mathlib.Core.Logic.{_⊎_, inl, inr, _↔_}
-use Prim.Native.Nat.{ℕ, suc, _+_, _≤_, _<_}
+use Prim.Native.Nat.{ℕ, _+_, _≤_, _<_}
 use native.Mathlib.Omega.{arith}
 use native.Mathlib.Numerals.{add-one}
 use lib.ListN.{length, getD, take}
-use lib.Seq.{length-take-le, take-suc, take-length, getD-take}
-use Rattle.search.proofs.Settling.{and-both}
-use Rattle.refusals.specs.Table.{Rows, row, _or_, nowhere, FirstBroken, Refuses, Passes, Sound, Searched, line, before}
-use Rattle.refusals.proofs.Laws.{searched-all, searched-broken, refuses-left, refuses-right, refuses-row, passes-row, behind-row, sound-row, sound-or, nowhere-one, broken-one, decided-one}
-use Rattle.channel.specs.Channel.{Job, T, M, Barred, Collide}
+use lib.Seq.{length-take-le, take-suc, getD-take}
+use Rattle.refusals.specs.Table.{nowhere, FirstBroken, Refuses, Passes, Sound, line, before}
+use Rattle.refusals.proofs.Laws.{refuses-left, refuses-right, refuses-row, behind-row, sound-row, sound-or, nowhere-one, broken-one, decided-one}
+use Rattle.channel.specs.Channel.{Job, M, Barred, Collide}
 use Rattle.channel.specs.Routing.{Legal, Routing, clash, routings}
 use Rattle.channel.proofs.Says.{apart-is}
 use Rattle.jobfile.specs.Rows.{fileRows, mOf, jobOf}
@@ -19,7 +18,7 @@ use Rattle.jobfile.specs.Reads.{FileOf, Facts}
 use Rattle.jobfile.proofs.Exact.{job-numbers, facts-of, facts-pass, job-is, file-sound}
 use Rattle.judge.specs.declared.Judgement.{Judgement}
 use Rattle.judge.specs.declared.Judgement.the-variants as variant
-use Rattle.judge.specs.Judges.{LabelKept, RoutingKept, routingRow, judgeRows, Judges}
+use Rattle.judge.specs.Judges.{LabelKept, RoutingKept, judgeRows, Judges}
 
 module _ (j : Job) (q : List ℕ) where
   -- the labels before connection i + 1
@@ -33,9 +32,9 @@ module _ (j : Job) (q : List ℕ) where
       let e = took i (omega arith) in
       let open-track : Barred j (length (take i q)) (getD q i 0) ≡ false = ap (λ (x : ℕ). Barred j x (getD q i 0)) e ∙ k .allowed in
       let apart : clash j (length (take i q)) (getD q i 0) 0 (take i q) ≡ false =
-        apart-is j (length (take i q)) (getD q i 0) 0 (take i q) (λ g l s.
-          let z : 0 + g ≡ g = omega arith in
-          (λ x. Collide j (z x) (e x) (getD q i 0)) ∙ k .apart g (omega arith) (sym (getD-take i q g 0 (omega arith)) ∙ s)) in
+      apart-is j (length (take i q)) (getD q i 0) 0 (take i q) (λ g l s.
+      let z : 0 + g ≡ g = omega arith in
+      (λ x. Collide j (z x) (e x) (getD q i 0)) ∙ k .apart g (omega arith) (sym (getD-take i q g 0 (omega arith)) ∙ s)) in
       λ x. not (open-track x) && not (apart x)
 
   -- of a legal beginning every label is kept

@@ -14,10 +14,7 @@ ghost use Rattle.judge.specs.Judges.{RoutingKept, Judges};
 // What brought labels are: a legal routing of the file's job, or refused by a row of the table at a place.
 pub enum Judgement {
     Legal,
-    Refused {
-        number: u8,
-        place: usize,
-    },
+    Refused { number: u8, place: usize },
 }
 
 // The first connection whose label is outside 1 to T, barred, or collides with an earlier one; 0 if there is none.
@@ -30,15 +27,16 @@ fn bad_label(file: &[u8], tracks: u8, labels: &[u8]) -> usize
     let mut marks = [0; MARKS];
     let mut i = 0;
     while i < labels.len() {
+        let number = i + 1;
         let label = labels[i];
         if label < 1 {
-            return i + 1;
+            return number;
         }
         if tracks < label {
-            return i + 1;
+            return number;
         }
         if !marks::fits(&runs, &marks, i, Label(label)) {
-            return i + 1;
+            return number;
         }
         marks = marks::taken(&runs, marks, i, Label(label));
         i += 1;

@@ -58,5 +58,5 @@ numbers =
       n9 = by-dead (jobB 1) 6 (searched-worked .2);
       n10 = λ j e. by-found j [] 0 (empty j (M j) e);
       n11 = by-dead (jobA 1) 6 (searched-worked .3);
-      n12 = by-found jobOne _ 1 (searched-worked .4)
+      n12 = by-found jobOne _ 1 (searched-worked .4);
     }

@@ -66,6 +66,9 @@ const P1_ENDS: [u8; 34] = [
 
 const P1_STARTS: [usize; 9] = [0, 6, 12, 18, 24, 27, 30, 32, 34];
 
+// The bytes of P1's file without connections: 8 records, 34 right ends and the trailer.
+pub const P1_FILE: usize = HEAD * 8 + 34 + TRAILER;
+
 // The answer: the length of the file that was written, or a refusal.
 pub enum Written {
     File(usize),

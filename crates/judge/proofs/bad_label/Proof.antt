@@ -1,19 +1,13 @@
 -- The walk keeps the marks of the labels passed, a legal partial routing (`Going`): a label that fits beside them is kept, and one that does not ends it. Assumes nothing.
 use borrow.Author.Needs.{needs}
-use native.Mathlib.Omega.{arith}
 use denote.Ref.{now}
 use mathlib.Core.List.{List}
-use Prim.Native.Nat.{ℕ, _+_, _-_, _≤_, _<_}
+use Prim.Native.Nat.{ℕ, _-_, _≤_, _<_}
 use lib.ListN.{length, getD}
 use Rattle.jobfile.specs.Rows.{tOf}
 use Rattle.judge.proofs.Going.{Going, going-first, going-low, going-high, going-inside, going-shut, going-open, going-on, going-last}
 use Rattle.judge.proofs.bad_label.Statement.{statement}
 use Rattle.judge.proofs.bad_label.Tie as tie
-use Rattle.judge.proofs.bad_label.Reads as reads
-use Rattle.judge.proofs.bad_label.Lts as lts
-use Rattle.marks.proofs.fits.Reads as fits-reads
-use Rattle.marks.proofs.taken.Reads as taken-reads
-use Rattle.occupancy.proofs.table.Reads as table-reads
 
 abbrev Inv-loop : tie.InvT-loop
 Inv-loop file tracks labels runs marks₀ i₀ marks i = Going file labels runs marks i
@@ -43,56 +37,39 @@ low e = e .before .if1 .left
 high : (e : tie.Else2 Inv-loop μ-loop) → getD (labels e) (at e) 0 ≤ tOf (file e)
 high e = rw (e .before .before .before .before .before .before .before .before .pre .1) at (e .if2 .left)
 
--- src/lib.rt:29:16
 table-requires : tie.Need-table-requires Inv-loop μ-loop
 table-requires c κs = c .before .before .pre .0
 
--- src/lib.rt:32:5
 loop-holds : tie.Need-loop-holds Inv-loop μ-loop
 loop-holds c = let s = c .before .before .before in going-first (now (s .args .file)) (now (s .args .labels)) (c .table .result) (s .pre .0) (c .table .ensures) (s .pre .2)
 
--- src/lib.rt:33:21
+add-number : tie.Need-add-number Inv-loop μ-loop
+add-number c = search needs
+
 shared-slice-read-label : tie.Need-shared-slice-read-label Inv-loop μ-loop
 shared-slice-read-label c = search needs
 
--- src/lib.rt:35:20
-add-result : tie.Need-add-result Inv-loop μ-loop
-add-result c = search needs
-
--- src/lib.rt:35:13
 returns : tie.Need-returns Inv-loop μ-loop
 returns c =
     let l = c .before .before .before in
     let s = l .before .before .before .before in
     going-low (now (s .args .file)) (now (s .args .labels)) (l .before .table .result) (l .loop .marks) (l .loop .i) (l .loop .inv) (c .before .before .loop-test .taken) (c .if1 .taken)
 
--- src/lib.rt:38:20
-add-result-2 : tie.Need-add-result-2 Inv-loop μ-loop
-add-result-2 c = search needs
-
--- src/lib.rt:38:13
 returns-2 : tie.Need-returns-2 Inv-loop μ-loop
 returns-2 c =
     let l = c .before .before .before .before in
     let s = l .before .before .before .before in
     going-high (now (s .args .file)) (now (s .args .labels)) (l .before .table .result) (l .loop .marks) (l .loop .i) (l .loop .inv) (c .before .before .before .loop-test .taken) (rw (s .pre .1) at (c .if2 .taken))
 
--- src/lib.rt:40:13
 fits-requires : tie.Need-fits-requires Inv-loop μ-loop
 fits-requires c κs = let e = c .before .before in let l = e .before .before .before .before in going-inside (file e) (labels e) (runs e) (l .loop .marks) (l .loop .i) (l .loop .inv) (inside e) (low e) (high e)
 
--- src/lib.rt:41:20
-add-result-3 : tie.Need-add-result-3 Inv-loop μ-loop
-add-result-3 c = search needs
-
--- src/lib.rt:41:13
 returns-3 : tie.Need-returns-3 Inv-loop μ-loop
 returns-3 c =
     let e = c .before .before .before .before in
     let l = e .before .before .before .before in
     going-shut (file e) (labels e) (runs e) (l .loop .marks) (l .loop .i) (l .loop .inv) (inside e) (low e) (high e) (c .before .fits2 .result) (c .before .fits2 .ensures) (c .if3 .taken)
 
--- src/lib.rt:43:17
 taken-requires : tie.Need-taken-requires Inv-loop μ-loop
 taken-requires c κs =
     let f = c .before .before in
@@ -100,15 +77,12 @@ taken-requires c κs =
     let l = e .before .before .before .before in
     (going-inside (file e) (labels e) (runs e) (l .loop .marks) (l .loop .i) (l .loop .inv) (inside e) (low e) (high e), going-open (file e) (labels e) (runs e) (l .loop .marks) (l .loop .i) (l .loop .inv) (inside e) (low e) (high e) (f .fits2 .result) (f .fits2 .ensures) (c .before .if3 .left))
 
--- src/lib.rt:44:9
 add-i : tie.Need-add-i Inv-loop μ-loop
 add-i c = search needs
 
--- src/lib.rt:32:5
 loop-less : tie.Need-loop-less Inv-loop μ-loop
 loop-less c = search needs
 
--- src/lib.rt:32:5
 loop-again : tie.Need-loop-again Inv-loop μ-loop
 loop-again c =
     let d = c .before .before in
@@ -117,7 +91,6 @@ loop-again c =
     let l = e .before .before .before .before in
     going-on (file e) (labels e) (runs e) (l .loop .marks) (l .loop .i) (l .loop .inv) (inside e) (low e) (high e) (f .fits2 .result) (f .fits2 .ensures) (d .if3 .left) (c .taken .result) (c .taken .ensures)
 
--- src/lib.rt:25:1
 returns-4 : tie.Need-returns-4 Inv-loop μ-loop
 returns-4 c =
     let l = c .before in
@@ -132,13 +105,11 @@ bad-label-spec =
     μ-loop
     table-requires
     loop-holds
+    add-number
     shared-slice-read-label
-    add-result
     returns
-    add-result-2
     returns-2
     fits-requires
-    add-result-3
     returns-3
     taken-requires
     add-i

@@ -129,6 +129,20 @@ try-tracks-from-same-length : (t : ℕ) → try-tracks-from-lts.Need-same-length
 ) (try-tracks-from-at t) try-tracks-from.Post try-tracks-from-Inv-loop try-tracks-from-μ-loop
 try-tracks-from-same-length t c = search needs
 
+-- past the loop's test, a track is left
+abbrev Trying : ℕ → Type 0
+Trying t = try-tracks-from-lts.In-loop (
+  fits-reads.Asked,
+  fits-reads.Learnt,
+  taken-reads.Asked,
+  taken-reads.Learnt,
+  place-connection-below t,
+  place-connection.Post,
+) (try-tracks-from-at t) try-tracks-from.Post try-tracks-from-Inv-loop try-tracks-from-μ-loop
+
+one-left : (t : ℕ) (c : Trying t) → let L = c .before in L .loop .t ≤ L .before .before .args .tracks
+one-left t c = omega (arith, c .loop-test .taken)
+
 try-tracks-from-returns : (t : ℕ) → try-tracks-from-lts.Need-returns (
   fits-reads.Asked,
   fits-reads.Learnt,
@@ -139,7 +153,7 @@ try-tracks-from-returns : (t : ℕ) → try-tracks-from-lts.Need-returns (
 ) (try-tracks-from-at t) try-tracks-from.Post try-tracks-from-Inv-loop try-tracks-from-μ-loop
 try-tracks-from-returns t c =
     let L = c .before .before in
-    rw (L .loop .inv .same) (L .loop .inv .rest _ _ (tries-out _ _ _ _ _ _ _ _ (c .before .loop-test .taken) (c .if1 .taken)))
+    rw (L .loop .inv .same) (L .loop .inv .rest _ _ (tries-out _ _ _ _ _ _ _ _ (one-left t (c .before)) (c .if1 .taken)))
 
 try-tracks-from-sub-left : (t : ℕ) → try-tracks-from-lts.Need-sub-left (
   fits-reads.Asked,
@@ -197,7 +211,7 @@ in-table : (t : ℕ) (c : Going-on t) → let L = c .before .before in let a = L
 in-table t c =
     let L = c .before .before in
     let p = L .before .before .pre .1 in
-    p .0 .inside _ _ (p .1) (L .loop .inv .within .0) (c .before .loop-test .taken)
+    p .0 .inside _ _ (p .1) (L .loop .inv .within .0) (one-left t (c .before))
 
 -- past the test, the track fits
 fitted : (t : ℕ) (c : Fits t) → let L = c .before .before .before .before .before in let a = L .before .before .args in (marking (now (a .runs)) (a .tracks)) .ok (a .i, a .t7) (L .loop .t) ≡ true
@@ -221,7 +235,7 @@ on-dead t p n e =
     let L = p .before .before .before .before .before .before .before .before in
     let d = rw e at (placed t p) in
     let k = dead-keeps _ _ _ _ _ _ d in
-    let lt = p .before .before .before .before .before .before .before .loop-test .taken in
+    let lt = one-left t (p .before .before .before .before .before .before .before) in
     let nz = p .before .before .before .before .before .before .if1 .left in
     record {
       same = k .0;
@@ -240,9 +254,9 @@ on-barred t c =
     record {
       same = L .loop .inv .same;
       long = L .loop .inv .long;
-      within = omega (arith, c .before .before .before .before .loop-test .taken);
+      within = omega (arith, one-left t (c .before .before .before .before));
       paid = omega (arith, L .loop .inv .paid);
-      rest = λ r l x. L .loop .inv .rest r l (tries-passed _ _ _ _ _ _ _ _ _ _ (c .before .before .before .before .loop-test .taken) (sym (c .before .fits2 .ensures) ∙ c .if2 .left) (c .before .before .before .if1 .left) x);
+      rest = λ r l x. L .loop .inv .rest r l (tries-passed _ _ _ _ _ _ _ _ _ _ (one-left t (c .before .before .before .before)) (sym (c .before .fits2 .ensures) ∙ c .if2 .left) (c .before .before .before .if1 .left) x);
     }
 
 try-tracks-from-fits-requires : (t : ℕ) → try-tracks-from-lts.Need-fits-requires (
@@ -333,7 +347,7 @@ try-tracks-from-returns-2 : (t : ℕ) → try-tracks-from-lts.Need-returns-2 (
 try-tracks-from-returns-2 t c =
     let p = c .before .before .before .before .before in
     let L = p .before .before .before .before .before .before .before .before in
-    L .loop .inv .rest _ _ (tries-hit _ _ _ _ _ _ _ _ _ _ (p .before .before .before .before .before .before .before .loop-test .taken) (fitted t (p .before .before .before)) (p .before .before .before .before .before .before .if1 .left) (rw (c .before .rest .given .1) at (placed t p)))
+    L .loop .inv .rest _ _ (tries-hit _ _ _ _ _ _ _ _ _ _ (one-left t (p .before .before .before .before .before .before .before)) (fitted t (p .before .before .before)) (p .before .before .before .before .before .before .if1 .left) (rw (c .before .rest .given .1) at (placed t p)))
 
 try-tracks-from-enum-known-rest-2 : (t : ℕ) → try-tracks-from-lts.Need-enum-known-rest-2 (
   fits-reads.Asked,
@@ -376,7 +390,7 @@ try-tracks-from-returns-3 : (t : ℕ) → try-tracks-from-lts.Need-returns-3 (
 try-tracks-from-returns-3 t c =
     let p = c .before .before .before .before in
     let L = p .before .before .before .before .before .before .before .before in
-    L .loop .inv .rest _ _ (tries-starved _ _ _ _ _ _ _ _ _ (p .before .before .before .before .before .before .before .loop-test .taken) (fitted t (p .before .before .before)) (p .before .before .before .before .before .before .if1 .left) (rw (c .enum-told .given .1) at (placed t p)))
+    L .loop .inv .rest _ _ (tries-starved _ _ _ _ _ _ _ _ _ (one-left t (p .before .before .before .before .before .before .before)) (fitted t (p .before .before .before)) (p .before .before .before .before .before .before .if1 .left) (rw (c .enum-told .given .1) at (placed t p)))
 
 try-tracks-from-add-t : (t : ℕ) → try-tracks-from-lts.Need-add-t (
   fits-reads.Asked,
