@@ -17,13 +17,6 @@ programBudget = 1000000
 abbrev pub mostInput : ℕ
 mostInput = 4096
 
--- room for a first line, and for a connection's line
-abbrev pub firstRoom : ℕ
-firstRoom = 40
-
-abbrev pub rowRoom : ℕ
-rowRoom = 16
-
 -- a number, and the same of at most three digits
 abbrev pub number : ℕ → List ℕ
 number n = digits 19 n
@@ -83,15 +76,22 @@ verdictLines j (first q n) = verdictText routedWord n ++ rowsText j q (M j)
 verdictLines j (none n) = verdictText unroutableWord n
 verdictLines j (undecided n) = verdictText undecidedWord n
 
--- what is printed for the input f: over 4,096 bytes it is refused as 3, place 0; else by the file's rows; else the verdict on its job under the program's budget
+-- what is printed for the input f. Over the longest it is refused as 3, place 0; else as the file's rows say; else it is the verdict on its job under the program's budget
 pub data Prints (f : List ℕ) : List ℕ → Type 0 where
   too-long : mostInput < length f → Prints f (refusedText 3 0)
   refused : (num place : ℕ) → length f ≤ mostInput → Refuses (fileRows f) num place → Prints f (refusedText num place)
   decided : (j : Job) (o : Outcome) → length f ≤ mostInput → FileOf f j → Decides j programBudget o → Prints f (verdictLines j o)
 
--- the text stands at the front of the lent buffer, r bytes of it, and the rest of the buffer is what it was
+-- the text stands at the front of the lent buffer, r bytes of it, and the rest of the buffer stays
 pub record Printed (f old new : List ℕ) (r : ℕ) : Type 0 where
   pub text : List ℕ
   pub prints : Prints f text
   pub wrote : Wrote old 0 text new r
   pub fits : r ≤ length new
+
+-- what is asked of the buffer for a first line, and for a connection's line
+abbrev pub firstRoom : ℕ
+firstRoom = 40
+
+abbrev pub rowRoom : ℕ
+rowRoom = 16
