@@ -1,6 +1,5 @@
 -- A list of records and its bytes tell the same: the same rows hold, and the file is the same; so what the core answers is the entry's answer. Assumes nothing.
 use mathlib.Core.Path.{_≡_, refl, ap, sym, subst, _∙_}
-use mathlib.Core.Bool.{cond}
 use mathlib.Core.List.{List, [], _∷_}
 use mathlib.Core.Logic.{inl, inr}
 use Prim.Native.Nat.{ℕ, zero, suc, _+_, _*_, _≤_, _<_}
@@ -55,10 +54,11 @@ connections-told xs =
     tab-at g d (length xs) 0 i m ∙ ap g (zero-add i) ∙ read-at xs i d m)
 
 -- the records' bytes, one after the other
+pub placed-few : (l : List ℕ) (i : ℕ) (c : Record) → i < mostConnections → set (set (set l (3 * i) (c .left)) (3 * i + 1) (c .right)) (3 * i + 2) (c .mark) ≡ placed l i c
+placed-few l i c h = sym (simp (lt-ltb i mostConnections h))
+
 placed-sets : (l : List ℕ) (i : ℕ) (c : Record) → i < mostConnections → placed l i c ≡ sets l (3 * i) (connectionBytes (connectionOf c))
-placed-sets l i c h =
-    ap (λ z. cond z (set (set (set l (3 * i) (c .left)) (3 * i + 1) (c .right)) (3 * i + 2) (c .mark)) l) (lt-ltb i mostConnections h)
-    ∙ (λ j. set (set (set l (3 * i) (c .left)) (add-one (3 * i) j) (c .right)) (add-two (3 * i) j) (c .mark))
+placed-sets l i c h = sym (placed-few l i c h) ∙ (λ j. set (set (set l (3 * i) (c .left)) (add-one (3 * i) j) (c .right)) (add-two (3 * i) j) (c .mark))
 
 gathered-sets : (cs : List Record) (i : ℕ) (l : List ℕ) → i + length cs ≤ mostConnections → gathered cs i l ≡ sets l (3 * i) (bytesOf cs)
 unfolding gathered all

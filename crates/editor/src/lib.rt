@@ -4,7 +4,10 @@ ghost use mathlib.Core.Path.{_≡_};
 ghost use Rattle.editor.specs.Edits.{blank, placed, gathered, RoutesBytes, Edits};
 use channel::MOST_CONNECTIONS;
 use jobfile::CONNECTION;
-use part::P1_FILE;
+use jobfile::HEAD;
+use jobfile::TRAILER;
+use part::P1_RIGHT_ENDS;
+use part::P1_TRACKS;
 use part::Written;
 use part::write_p1;
 use route::Verdict;
@@ -13,7 +16,7 @@ use route::route;
 // The bytes of the most connections, and of P1's file with them.
 const BYTES: usize = CONNECTION * MOST_CONNECTIONS;
 
-const FILE: usize = P1_FILE + BYTES;
+const FILE: usize = HEAD * P1_TRACKS + P1_RIGHT_ENDS + BYTES + TRAILER;
 
 #[repr(C)]
 pub struct Connection {

@@ -7,6 +7,7 @@ use native.Mathlib.Omega.{arith}
 use lib.ListN.{length}
 use Rattle.refusals.specs.Table.{row, nowhere, Refuses, Passes, Sound, Searched, before}
 use Rattle.refusals.proofs.Laws.{searched-all, searched-broken, refuses-left, refuses-right, refuses-row, passes-row, passes-or, behind-row, sound-row, sound-front, sound-or, nowhere-one, broken-one, decided-one}
+use Rattle.channel.specs.Limits.{mostConnections}
 use Rattle.jobfile.specs.Rows.{ConnectionKept}
 use Rattle.part.specs.declared.Written.{Written}
 use Rattle.part.specs.declared.Written.the-variants as variant
@@ -17,6 +18,10 @@ module _ (p : Part) (bytes : List ℕ) (k lent : ℕ) where
   pub answer-2 : (Takes (p .columns) (tracksIn (p .table)) (length bytes) k → ⊥) → Refuses (writerRows p bytes k lent) 2 0
   unfolding before
   answer-2 h = refuses-left (refuses-left (refuses-row 2 0 (h, refl)) (behind-row (omega arith))) (behind-row (omega arith))
+
+  -- more than the most connections are refused by 2, however many they are: their number is not cut to a byte
+  pub many-refused : mostConnections < countOf bytes → Refuses (writerRows p bytes k lent) 2 0
+  many-refused h = answer-2 (λ t. omega (arith, t .limits .m-high))
 
   module _ (takes : Takes (p .columns) (tracksIn (p .table)) (length bytes) k) (bad : ℕ) (searched : Searched (ConnectionKept bytes (p .columns) 0 (countOf bytes)) bad) where
     pass-2 : Passes (row 2 (nowhere (Takes (p .columns) (tracksIn (p .table)) (length bytes) k → ⊥)))

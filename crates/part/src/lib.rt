@@ -21,13 +21,17 @@ use jobfile::within_limits;
 use text::put;
 use text::put_text;
 
-// P1's columns, and how many of its tracks stand before the performance tracks.
+// P1's columns, tracks and right ends, and how many of its tracks stand before the performance tracks.
 const P1_COLUMNS: u8 = 30;
+
+pub const P1_TRACKS: usize = 8;
+
+pub const P1_RIGHT_ENDS: usize = 34;
 
 const P1_PLAIN: usize = 6;
 
 // P1's right ends, track after track, and where each track starts among them.
-const P1_ENDS: [u8; 34] = [
+const P1_ENDS: [u8; P1_RIGHT_ENDS] = [
     5,
     10,
     15,
@@ -64,10 +68,7 @@ const P1_ENDS: [u8; 34] = [
     30,
 ];
 
-const P1_STARTS: [usize; 9] = [0, 6, 12, 18, 24, 27, 30, 32, 34];
-
-// The bytes of P1's file without connections: 8 records, 34 right ends and the trailer.
-pub const P1_FILE: usize = HEAD * 8 + 34 + TRAILER;
+const P1_STARTS: [usize; P1_TRACKS + 1] = [0, 6, 12, 18, 24, 27, 30, 32, 34];
 
 // The answer: the length of the file that was written, or a refusal.
 pub enum Written {

@@ -1,0 +1,119 @@
+//! Times the library's entries. The search is timed beside its twins: five times each in turn, the best of each; then the clause lines of a
+//! largest channel, and replies, short and long. The ratio is to the twin that makes a table, as the library does.
+
+mod jobs;
+mod twin;
+
+use jobs::Timed;
+use second::fast::Channel;
+use second::make::spelled;
+use silienvo::Verdict;
+use std::hint::black_box;
+use std::time::Instant;
+
+const ROUNDS: usize = 5;
+
+/// Seconds that one call takes: as many calls as make some 50 ms, or one.
+fn seconds(calls: u32, mut call: impl FnMut()) -> f64 {
+    let start = Instant::now();
+    for _ in 0..calls {
+        call();
+    }
+    start.elapsed().as_secs_f64() / f64::from(calls)
+}
+
+fn calls(mut call: impl FnMut()) -> u32 {
+    let once = seconds(1, &mut call).max(1e-8);
+    (0.05 / once).clamp(1.0, 5e6) as u32
+}
+
+fn words(verdict: Verdict) -> (&'static str, u64) {
+    match verdict {
+        Verdict::Routed(trials) => ("routed", trials),
+        Verdict::Unroutable(trials) => ("unroutable", trials),
+        Verdict::Undecided(trials) => ("undecided", trials),
+    }
+}
+
+fn twin_words(verdict: twin::Verdict) -> (&'static str, u64) {
+    match verdict {
+        twin::Verdict::Routed(trials) => ("routed", trials),
+        twin::Verdict::Unroutable(trials) => ("unroutable", trials),
+        twin::Verdict::Undecided(trials) => ("undecided", trials),
+    }
+}
+
+/// The library, the twin by a table, and the twin by walking, in turn.
+fn search(job: &Timed) {
+    let (mut a, mut b, mut c) = ([0; 64], [0; 64], [0; 64]);
+    assert_eq!(words(silienvo::route(&job.file, job.budget, &mut a).expect("a job")), job.known, "{}", job.name);
+    assert_eq!(twin_words(twin::tabled(&job.file, job.budget, &mut b).expect("a job")), job.known, "{}", job.name);
+    assert_eq!(twin_words(twin::walked(&job.file, job.budget, &mut c).expect("a job")), job.known, "{}", job.name);
+    assert_eq!((a, a), (b, c), "{}", job.name);
+    let mut library = || _ = black_box(silienvo::route(black_box(&job.file), job.budget, &mut a));
+    let mut tabled = || _ = black_box(twin::tabled(black_box(&job.file), job.budget, &mut b));
+    let mut walked = || _ = black_box(twin::walked(black_box(&job.file), job.budget, &mut c));
+    let n = calls(&mut library);
+    let mut best = [f64::MAX; 3];
+    for _ in 0..ROUNDS {
+        best[0] = best[0].min(seconds(n, &mut library));
+        best[1] = best[1].min(seconds(n, &mut tabled));
+        best[2] = best[2].min(seconds(n, &mut walked));
+    }
+    let (word, trials) = job.known;
+    let [library, tabled, walked] = best.map(|best| best * 1e9 / trials as f64);
+    println!(
+        "{:<20} {word:<10} {trials:>9} trials, ns a trial: library {library:>7.2}, twin by a table {tabled:>7.2}, twin by walking {walked:>7.2}",
+        job.name
+    );
+    println!("{} ratio {:.2}", job.name, library / tabled);
+}
+
+fn lines(file: &[u8]) {
+    let mut buffer = [0; 62];
+    let length = silienvo::line(file, 0, &mut buffer).expect("line 0") as usize;
+    let head = String::from_utf8_lossy(&buffer[..length]).into_owned();
+    let count: u64 = head.trim_end().split(' ').nth(3).and_then(|c| c.parse().ok()).expect("C");
+    let start = Instant::now();
+    let mut bytes = 0;
+    for number in 0..=count {
+        bytes += silienvo::line(file, number, &mut buffer).expect("a line");
+    }
+    let seconds = start.elapsed().as_secs_f64();
+    println!("clause lines: {} lines, {bytes} bytes in {seconds:.2} s, {:.0} lines a second", count + 1, (count + 1) as f64 / seconds);
+}
+
+fn reply(name: &str, file: &[u8], text: &[u8], connections: usize) {
+    let mut labels = vec![0; connections];
+    assert_eq!(silienvo::reply(file, text, &mut labels), Ok(silienvo::Replied::Accepted), "{name}");
+    let mut call = || _ = black_box(silienvo::reply(black_box(file), black_box(text), &mut labels));
+    let n = calls(&mut call);
+    let best = (0..ROUNDS).map(|_| seconds(n, &mut call)).fold(f64::MAX, f64::min);
+    println!("{name}: {} bytes, {:.0} replies a second, {:.1} MB a second", text.len(), 1.0 / best, text.len() as f64 / best / 1e6);
+}
+
+fn replies(file: &[u8]) {
+    let job_a = &jobs::jobs()[0].file;
+    reply("reply to job A", job_a, b"s SATISFIABLE\nv -1 2 -3 0\n", 3);
+    let mut labels = [0; 64];
+    silienvo::route(file, u32::MAX, &mut labels).expect("a routing");
+    let codes: Vec<usize> = labels.iter().map(|&label| usize::from(label) - 1).collect();
+    let width = Channel::of(&second::fast::read(file).expect("a job")).width();
+    let values: String = spelled(&codes, width).iter().map(|literal| format!("v {literal}\n")).collect();
+    let text = format!("s SATISFIABLE\n{values}v 0\n");
+    reply("reply to a largest channel", file, text.as_bytes(), 64);
+    let remarks = "c a remark as solvers write them, a line of some seventy bytes in all.\n".repeat(60_000);
+    reply("the same after remarks", file, format!("{remarks}{text}").as_bytes(), 64);
+}
+
+fn main() {
+    println!(
+        "Lent buffers are lent again as the call before left them: nothing is cleared, by the library or by the twins, inside the time or outside."
+    );
+    println!("A call reads and checks its file, then routes: so the library, and so the twins. Best of {ROUNDS}, in turn.");
+    for job in jobs::jobs() {
+        search(&job);
+    }
+    lines(&jobs::most_clauses());
+    replies(&jobs::full_routable());
+}

@@ -1,0 +1,123 @@
+//! How often each answer was given by each op, and each limit met. None that can be given may stay at 0.
+
+use second::kind::kind;
+use std::collections::BTreeMap;
+use wire::Request;
+
+const OPS: [&str; 8] = ["read", "route", "judge", "line", "reply", "p1", "p1route", "program"];
+
+/// Rows of the table, and the ops that can give them.
+const ROWS: [(&str, &[&str]); 29] = [
+    ("job", &["read"]),
+    ("routed", &["route", "p1route", "program"]),
+    ("unroutable", &["route", "p1route", "program"]),
+    ("undecided", &["route", "p1route", "program"]),
+    ("legal", &["judge"]),
+    ("line", &["line"]),
+    ("accepted", &["reply"]),
+    ("claimed", &["reply"]),
+    ("unknown", &["reply"]),
+    ("file", &["p1"]),
+    ("refused 1", &["read", "route", "judge", "line", "reply", "program"]),
+    ("refused 2", &["read", "route", "judge", "line", "reply", "p1", "p1route", "program"]),
+    ("refused 3", &["read", "route", "judge", "line", "reply", "program"]),
+    ("refused 3, over 4096", &["program"]),
+    ("refused 4, a track", &["read", "route", "judge", "line", "reply", "program"]),
+    ("refused 4, left over", &["read", "route", "judge", "line", "reply", "program"]),
+    ("refused 5", &["read", "route", "judge", "line", "reply", "p1", "p1route", "program"]),
+    ("refused 9", &["route", "line", "reply", "p1", "p1route"]),
+    ("refused 6, a line", &["reply"]),
+    ("refused 6, the rules", &["reply"]),
+    ("refused 7, a literal", &["reply"]),
+    ("refused 7, missing", &["reply"]),
+    ("refused 8, group 1", &["reply"]),
+    ("refused 8, group 2", &["reply"]),
+    ("refused 8, group 3", &["reply"]),
+    ("refused 10", &["line"]),
+    ("refused 11, not M", &["judge"]),
+    ("refused 11, a label", &["judge"]),
+    ("refused 11, collides", &["judge"]),
+];
+
+/// Limits on both sides: what the reader must have said of a file that has this size.
+const LIMITS: [(&str, &str); 10] = [
+    ("N 255", "job"),
+    ("N 0", "refused 2"),
+    ("T 36", "job"),
+    ("T 37", "refused 2"),
+    ("M 64", "job"),
+    ("M 65", "refused 2"),
+    ("K 32", "job"),
+    ("K 33", "refused 2"),
+    ("g 32", "job"),
+    ("g 33", "refused 4"),
+];
+
+#[derive(Default)]
+pub struct Table {
+    cells: BTreeMap<(&'static str, String), u64>,
+    limits: [u64; LIMITS.len()],
+}
+
+impl Table {
+    pub fn count(&mut self, request: &Request, answer: &[u8]) {
+        *self.cells.entry((request.op(), kind(request, answer))).or_default() += 1;
+        if let Request::Read { file } = request {
+            self.count_limits(file, answer);
+        }
+    }
+
+    fn count_limits(&mut self, file: &[u8], answer: &[u8]) {
+        let Some(&[.., n, t, m, k]) = file.last_chunk::<8>() else { return };
+        let g = segments(file);
+        let met = [n == 255, n == 0, t == 36, t == 37, m == 64, m == 65, k == 32, k == 33, g == 32, g == 33];
+        for (i, met) in met.into_iter().enumerate() {
+            self.limits[i] += u64::from(met && answer.starts_with(LIMITS[i].1.as_bytes()));
+        }
+    }
+
+    pub fn join(&mut self, other: Table) {
+        for (cell, n) in other.cells {
+            *self.cells.entry(cell).or_default() += n;
+        }
+        for (mine, n) in self.limits.iter_mut().zip(other.limits) {
+            *mine += n;
+        }
+    }
+
+    /// Prints the table; says how many of its cells are 0.
+    pub fn print(&self) -> u64 {
+        let mut empty = 0;
+        println!("{:<22}{}", "", OPS.map(|op| format!("{op:>9}")).concat());
+        for (row, ops) in ROWS {
+            print!("{row:<22}");
+            for op in OPS {
+                let n = self.cells.get(&(op, row.to_string())).copied().unwrap_or(0);
+                if ops.contains(&op) {
+                    print!("{n:>9}");
+                    empty += u64::from(n == 0);
+                } else {
+                    print!("{:>9}", if n == 0 { ".".to_string() } else { format!("{n}?") });
+                }
+            }
+            println!();
+        }
+        println!("limits, by the reader:");
+        for (i, (size, answer)) in LIMITS.iter().enumerate() {
+            println!("  {size:<6} {answer:<10} {:>8}", self.limits[i]);
+            empty += u64::from(self.limits[i] == 0);
+        }
+        empty
+    }
+}
+
+/// The most segments that a track record of the file claims.
+fn segments(file: &[u8]) -> u8 {
+    let (mut at, mut most) = (0, 0);
+    for _ in 0..file[file.len() - 3].min(40) {
+        let Some(&g) = file.get(at) else { break };
+        most = most.max(g);
+        at += 2 + usize::from(g);
+    }
+    most
+}

@@ -1,0 +1,41 @@
+//! The search that stops at the budget.
+
+use super::Channel;
+use crate::Verdict;
+
+/// Tries the tracks of each connection in order, and goes back where none is left. A track that was tried is a trial.
+pub fn search(channel: &Channel, budget: u32) -> Verdict {
+    let (all, tracks) = (channel.connections, channel.tracks);
+    let mut taken = vec![0u32; tracks];
+    // tried[m]: how many tracks of connection m were tried; the last of them is its track.
+    let mut tried: Vec<usize> = Vec::with_capacity(all);
+    let mut trials = 0;
+    if all > 0 {
+        tried.push(0);
+    }
+    while let Some(m) = tried.len().checked_sub(1) {
+        let k = tried[m];
+        if k == tracks {
+            tried.pop();
+            match tried.last() {
+                None => return Verdict::Unroutable { trials },
+                Some(&next) => taken[next - 1] &= !channel.mask(m - 1, next - 1),
+            }
+            continue;
+        }
+        if trials == u64::from(budget) {
+            return Verdict::Undecided { trials };
+        }
+        trials += 1;
+        tried[m] += 1;
+        let mask = channel.mask(m, k);
+        if mask != 0 && taken[k] & mask == 0 {
+            taken[k] |= mask;
+            if tried.len() == all {
+                break;
+            }
+            tried.push(0);
+        }
+    }
+    Verdict::Routed { labels: tried.iter().map(|&n| n as u8).collect(), trials }
+}

@@ -1,0 +1,13 @@
+//! Jobs, damaged files, replies and whole requests to ask about, from a seed.
+
+mod damage;
+mod jobs;
+mod replies;
+mod requests;
+mod rng;
+
+pub use damage::damage;
+pub use jobs::{channel, edge, full, like, middle, over, p1_connections, small, stacked, Shape};
+pub use replies::{cuts, reply, spelled};
+pub use requests::{batch, Asked};
+pub use rng::Rng;
