@@ -1,15 +1,15 @@
 -- The clause list has the clauses of the three groups and no others. Assumes nothing.
-use mathlib.Core.Path.{_≡_, refl, sym, ap, _∙_, subst}
+use mathlib.Core.Path.{_≡_, ap, _∙_}
 use mathlib.Core.Logic.{_⊎_, _↔_, inl, inr, ⊎-elim}
-use mathlib.Core.Bool.{Bool, true, false, _&&_, not}
-use mathlib.Core.List.{List, [], _∷_, _++_, List·Memᴰ, List·Memᴰ·eq-of-singleton, List·Memᴰ·append-cases, List·Memᴰ·head, Memᴰ·cast, Memᴰ·append-left, Memᴰ·append-right}
-use Prim.Native.Nat.{ℕ, _+_, _-_, _^_, _≤_, _<_}
+use mathlib.Core.Bool.{true, not}
+use mathlib.Core.List.{List·Memᴰ, List·Memᴰ·eq-of-singleton, List·Memᴰ·append-cases, List·Memᴰ·head, Memᴰ·cast, Memᴰ·append-left, Memᴰ·append-right}
+use Prim.Native.Nat.{_+_, _-_, _^_, _<_}
 use native.Mathlib.Omega.{arith}
 use lib.Dec.{ltb}
 use borrow.Author.Tests.{ltb-true, lt-ltb, not-true}
 use Rattle.search.proofs.Settling.{and-left, and-right, and-both}
 use Rattle.dimacs.specs.Clause.{Clause}
-use Rattle.clauses.specs.Clauses.{Grid, widthOf, bar, only, each, beyond, bars, meets, pairs, clausesOf}
+use Rattle.clauses.specs.Clauses.{Grid, widthOf, bar, beyond, bars, meets, pairs, clausesOf}
 use Rattle.clauses.specs.Groups.{InBeyond, InBars, InPairs}
 use Rattle.clauses.proofs.Each.{in-each, each-has, in-only, only-has}
 

@@ -1,18 +1,17 @@
 -- The models of a job's clauses are the codes of its legal routings, all of them and no others, each once. Assumes nothing.
 use mathlib.Core.Path.{_≡_, refl, sym, ap, _∙_, subst}
 use mathlib.Core.Logic.{_↔_}
-use mathlib.Core.Bool.{Bool, true, false}
-use mathlib.Core.List.{List, [], _∷_, map}
+use mathlib.Core.Bool.{Bool}
+use mathlib.Core.List.{List, [], _∷_}
 use Prim.Native.Nat.{ℕ, zero, suc, _+_, _*_, _-_, _^_, _≤_, _<_}
 use native.Mathlib.Omega.{arith}
 use native.Mathlib.Nat.{add-sub-cancel}
 use lib.ListN.{length, getD, length-map, List·getD-map}
-use Rattle.channel.specs.Channel.{Job, T, M, Barred, Collide}
-use Rattle.channel.specs.Routing.{Legal, Routing}
+use Rattle.channel.specs.Channel.{Job, M, Barred, Collide}
+use Rattle.channel.specs.Routing.{Routing}
 use Rattle.dimacs.specs.Clause.{valueIn}
 use Rattle.clauses.specs.Clauses.{Grid, gridOf, labelWith, codeWith, widthOf, width, ModelOf, Model, spell, codesIn, codes, labels, spelled, labelsIn}
 use Rattle.clauses.proofs.Width.{bitsFor-is}
-use Rattle.clauses.proofs.Bits.{codeAt}
 use Rattle.clauses.proofs.Spelling.{spell-codes, codes-spell, codes-length, spell-length, codes-at, codeAt-number}
 use Rattle.clauses.proofs.Says.{Fits, fits-same, codeBy, fits-all, all-fits}
 

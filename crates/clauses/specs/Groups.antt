@@ -1,7 +1,7 @@
 -- Document 01, "Clause lines": what stands in each of the three groups, and that literals stand in variable order. Assumes nothing: these are definitions.
 use mathlib.Core.Path.{_≡_}
 use mathlib.Core.Bool.{true, false}
-use mathlib.Core.List.{List, [], _∷_, _++_}
+use mathlib.Core.List.{[], _∷_, _++_}
 use Prim.Native.Nat.{ℕ, _+_, _^_, _≤_, _<_}
 use Rattle.dimacs.specs.Clause.{Clause}
 use Rattle.clauses.specs.Clauses.{Grid, widthOf, bar}

@@ -5,15 +5,15 @@ use mathlib.Core.Logic.{inl, inr}
 use Prim.Native.Nat.{ℕ, zero, suc, _*_, _≤_, _<_}
 use native.Mathlib.Omega.{arith}
 use lib.ListN.{length, getD}
-use Rattle.refusals.specs.Table.{line, before, Refuses, Passes, nowhere, row, roomRow}
+use Rattle.refusals.specs.Table.{line, before, Refuses, Passes}
 use Rattle.refusals.proofs.Laws.{refuses-left, refuses-right, refuses-row, passes-row, behind-row, behind-or}
 use Rattle.text.specs.Text.{Wrote}
 use Rattle.channel.specs.Limits.{mostTracks, mostConnections}
-use Rattle.channel.specs.Channel.{Job, T, M}
+use Rattle.channel.specs.Channel.{T, M}
 use Rattle.jobfile.specs.declared.Read.the-variants as read
-use Rattle.jobfile.specs.Rows.{fileRows, jobOf, tOf, mOf}
+use Rattle.jobfile.specs.Rows.{fileRows, jobOf}
 use Rattle.jobfile.specs.Reads.{Reads}
-use Rattle.jobfile.proofs.Exact.{Told, told, facts-pass, job-numbers}
+use Rattle.jobfile.proofs.Exact.{told, facts-pass, job-numbers}
 use Rattle.occupancy.specs.Runs.{Tabled}
 use Rattle.dimacs.specs.Lines.{clauseText, headerText}
 use Rattle.clauses.specs.Clauses.{Grid, gridOf, bitsFor, clausesOf, clauses}
@@ -21,7 +21,7 @@ use Rattle.places.specs.Table.{tableGrid}
 use Rattle.places.proofs.Tabled.{tabled-clauses}
 use Rattle.lines.specs.declared.Answer.{Answer}
 use Rattle.lines.specs.declared.Answer.the-variants.{Line, Refused}
-use Rattle.lines.specs.Lined.{mostLine, textOf, lineText, Lined}
+use Rattle.lines.specs.Lined.{mostLine, textOf, Lined}
 use Rattle.lines.specs.Writes.{lineRows, Writes}
 
 -- the file's rows stand before 9 and 10

@@ -1,8 +1,8 @@
 -- Any two answers that the contract of `line` allows are equal, and so is what they leave in the buffer: stated of the contract as the checker reads it. Assumes nothing.
 use mathlib.Core.Path.{_≡_, refl, ap, sym, _∙_, subst}
 use mathlib.Core.List.{List}
-use mathlib.Core.Logic.{inl, inr}
-use Prim.Native.Nat.{ℕ, _≤_, _<_}
+use mathlib.Core.Logic.{inl, inr, _↔_}
+use Prim.Native.Nat.{ℕ, _<_}
 use native.Mathlib.Omega.{arith}
 use lib.ListN.{length}
 use contract.Lifetimes.{Lfts}
@@ -51,6 +51,11 @@ module _ (f : List ℕ) (number : ℕ) (old : List ℕ) where
   writes-one (Line k) (Refused a b) new new′ p q = absurd (written-passes new k p a b (q .0 .holds))
   writes-one (Refused a b) (Line k) new new′ p q = absurd (written-passes new′ k q a b (p .0 .holds))
   writes-one (Refused a b) (Refused a′ b′) new new′ p q = let d = decided-one (line-sound f (length old) number) (p .0) (q .0) in ((λ z. Refused (d .0 z) (d .1 z)), p .1 ∙ sym (q .1))
+
+  -- a refusal is given exactly if a row holds
+  pub row-exactly : (r : Answer) (new : List ℕ) → Writes f number old r new → ((a : ℕ) × (p : ℕ) × (r ≡ Refused a p)) ↔ ((x : ℕ) × (p : ℕ) × lineRows f (length old) number x p)
+  row-exactly (Line k) new w = (λ h. absurd (let z : _≡_ {A = ℕ} 0 1 = cc (h .2) in omega arith), λ h. absurd (written-passes new k w (h .0) (h .1) (h .2)))
+  row-exactly (Refused a p) new w = (λ h. (a, p, w .0 .holds), λ h. (a, p, refl))
 
 pub one-answer : (κs : Lfts 2) (a : ArgsD line.signature κs) (r r′ : ResD line.signature κs) (x x′ : AtExit (endedOf 2 kinds.ps kinds.r) κs)
     → reads.Post κs a r x → reads.Post κs a r′ x′ → (r ≡ r′) × (now (x .1 .1 .0) ≡ now (x′ .1 .1 .0))

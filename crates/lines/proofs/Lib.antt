@@ -4,3 +4,4 @@ pub mod Answers
 pub mod Determined
 pub mod Short
 pub mod ReadBack
+pub mod Worked

@@ -1,16 +1,16 @@
 -- What a call for a line answers over the table, by the place that was found. Assumes nothing.
-use mathlib.Core.Path.{_≡_, refl, sym, ap, _∙_, subst}
-use mathlib.Core.List.{List, []}
-use Prim.Native.Nat.{ℕ, suc, _+_, _*_, _-_, _≤_, _<_}
+use mathlib.Core.Path.{_≡_, sym, ap, _∙_, subst}
+use mathlib.Core.List.{List}
+use Prim.Native.Nat.{ℕ, suc, _*_, _-_, _≤_, _<_}
 use native.Mathlib.Omega.{arith}
-use lib.ListN.{length, getD}
+use lib.ListN.{length}
 use Rattle.text.specs.Text.{Wrote}
 use Rattle.channel.specs.Limits.{mostTracks, mostConnections}
-use Rattle.clauses.specs.Clauses.{bitsFor, clausesOf}
+use Rattle.clauses.specs.Clauses.{clausesOf}
 use Rattle.clauses.proofs.Width.{bitsFor-is}
 use Rattle.places.specs.declared.Place.{Place}
 use Rattle.places.specs.declared.Place.the-variants.{One, Two, Past}
-use Rattle.places.specs.Places.{clauseAt, placesOf, Tells, Hit, Within, Sized, mostCodes}
+use Rattle.places.specs.Places.{clauseAt, placesOf, Tells, Within, Sized}
 use Rattle.places.specs.Table.{tableGrid}
 use Rattle.places.proofs.Walk.{Here, Ended, here-hit, ended-short}
 use Rattle.places.proofs.Sizes.{few-codes}

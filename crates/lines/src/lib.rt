@@ -1,15 +1,13 @@
 // A clause line by its number, into a lent buffer. Document 01, "Clause lines", and rows 1 to 5, 9 and 10 of "Replies by number".
 // specs/Lined.antt has the lines by their numbers, specs/Writes.antt the answers; the text of a clause is that of crate dimacs.
-ghost use mathlib.Core.Path.{_≡_};
-ghost use mathlib.Core.Bool.{Bool};
-ghost use mathlib.Core.List.{List, [], _∷_, _++_};
-ghost use Prim.Native.Nat.{ℕ, _+_, _-_, _*_, _≤_, _<_};
-ghost use lib.ListN.{length, getD};
+ghost use mathlib.Core.List.{[], _∷_};
+ghost use Prim.Native.Nat.{_+_, _-_, _*_, _≤_, _<_};
+ghost use lib.ListN.{length};
 ghost use Rattle.text.specs.Text.{Wrote};
 ghost use Rattle.channel.specs.Limits.{mostTracks, mostConnections};
 ghost use Rattle.dimacs.specs.Lines.{literalText, literalsText, clauseText, headerText};
 ghost use Rattle.clauses.specs.Clauses.{forbid, bar};
-ghost use Rattle.places.specs.Places.{clauseAt, Within, mostBits, mostCodes};
+ghost use Rattle.places.specs.Places.{clauseAt, Within, mostBits};
 ghost use Rattle.places.specs.Table.{tableGrid};
 ghost use Rattle.lines.specs.Lined.{mostLine, Lined};
 ghost use Rattle.lines.specs.Writes.{Writes};

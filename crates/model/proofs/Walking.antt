@@ -141,23 +141,27 @@ pair-most : (b : ℕ → ℕ → ℕ → Bool) (t h i : ℕ) → length (pairOf 
 unfolding pairOf
 pair-most b t h i = let z = each-most (λ c. only (b h i c) (Two h i (code c))) 1 t (λ c. only-most _ _) in omega arith
 
--- how far a part leads
-pub bars-far : (f : Place → Bool) (b : ℕ → ℕ → Bool) (t i n k : ℕ) → walk f n (barsOf b t i) ≡ Passed k → k ≤ n + t
-bars-far f b t i n k h = let a = walk-passed f (barsOf b t i) n k h in let z = bars-most b t i in omega arith
+-- how far a part leads that was passed
+module _ (f : Place → Bool) (n k : ℕ) (x : Walk) (q : x ≡ Passed k) where
+  far : (l : List Place) → x ≡ walk f n l → k ≡ n + length l
+  far l e = walk-passed f l n k (sym e ∙ q)
 
-pub pair-far : (f : Place → Bool) (b : ℕ → ℕ → ℕ → Bool) (t h i n k : ℕ) → walk f n (pairOf b t h i) ≡ Passed k → k ≤ n + t
-pair-far f b t h i n k e = let a = walk-passed f (pairOf b t h i) n k e in let z = pair-most b t h i in omega arith
+  pub bars-far : (b : ℕ → ℕ → Bool) (t i : ℕ) → x ≡ walk f n (barsOf b t i) → k ≤ n + t
+  bars-far b t i e = let a = far (barsOf b t i) e in let z = bars-most b t i in omega arith
+
+  pub pair-far : (b : ℕ → ℕ → ℕ → Bool) (t h i : ℕ) → x ≡ walk f n (pairOf b t h i) → k ≤ n + t
+  pair-far b t h i e = let a = far (pairOf b t h i) e in let z = pair-most b t h i in omega arith
+
+  pub row-far : (b : ℕ → ℕ → ℕ → Bool) (t m h : ℕ) → t ≤ mostTracks → m ≤ mostConnections → x ≡ walk f n (rowOf b t m h) → k ≤ n + mostConnections * mostTracks
+  unfolding rowOf
+  row-far b t m h u v e =
+      let a = far (rowOf b t m h) e in
+      let z = each-most (pairOf b t h) mostTracks m (λ i. let y = pair-most b t h i in omega arith) in
+      omega arith
 
 -- the connections up to h have no place with h
 pub row-start : (f : Place → Bool) (runs : List ℕ) (t h n : ℕ) → walk f n (each (h + 1) (pairOf (due runs) t h)) ≡ Passed n
 row-start f runs t h n = walk-empty f _ n (let z = none-before runs t h 0 (h + 1) refl in omega arith)
-
-pub row-far : (f : Place → Bool) (b : ℕ → ℕ → ℕ → Bool) (t m h n k : ℕ) → t ≤ mostTracks → m ≤ mostConnections → walk f n (rowOf b t m h) ≡ Passed k → k ≤ n + mostConnections * mostTracks
-unfolding rowOf
-row-far f b t m h n k u v e =
-    let a = walk-passed f (rowOf b t m h) n k e in
-    let z = each-most (pairOf b t h) mostTracks m (λ i. let y = pair-most b t h i in omega arith) in
-    omega arith
 
 -- group after group
 module _ (f : Place → Bool) (runs : List ℕ) (t m : ℕ) (few-t : t ≤ mostTracks) (few-m : m ≤ mostConnections) (top : ℕ) (s : top ≡ 2 ^ bitsFor t) where

@@ -11,8 +11,11 @@ ghost use Rattle.places.specs.Table.{shut, due, tableGrid, Later, Earlier};
 ghost use Rattle.model.specs.Codes.{manyMarks, codeFrom, Codes};
 ghost use Rattle.model.specs.Walks.{falseAt, walk, Below, manyBeyond, manyBars, manyPlaces};
 
+// The most bits that a code has, within the limits.
+const MOST_BITS: usize = 6;
+
 // A mark for each variable 1 to the limit of V, and one more at 0 that is not used.
-pub const MARKS: usize = 385;
+pub const MARKS: usize = channel::MOST_CONNECTIONS * MOST_BITS + 1;
 
 // What a walk brings: the number, from 1, of the first clause that is false; or how many were passed.
 pub enum Walk {

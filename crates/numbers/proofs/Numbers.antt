@@ -3,7 +3,8 @@ use mathlib.Core.Path.{_≡_, refl, sym, subst}
 use mathlib.Core.Logic.{inl, inr}
 use mathlib.Core.Bool.{true, false}
 use mathlib.Core.List.{List, [], _∷_}
-use Prim.Native.Nat.{ℕ, zero, suc, _≤_}
+use Prim.Native.Nat.{ℕ, zero, suc, _<_}
+use lib.ListN.{getD}
 use native.Mathlib.Omega.{arith}
 use Rattle.search.specs.Sequences.{Labelled, legal}
 use Rattle.search.specs.Tree.{Res, found, dead, place, Settled}
@@ -14,7 +15,11 @@ use Rattle.channel.specs.Verdict.{Need}
 use Rattle.channel.specs.Worked.{jobA, jobB, jobOne}
 use Rattle.channel.proofs.Says.{to-first, to-none, to-routing, of-routing}
 use Rattle.channel.proofs.Worked.{occupied-worked, searched-worked}
-use Rattle.numbers.specs.Twelve.{RoutesFirst, RoutesNone, Twelve}
+use Rattle.text.specs.Text.{digits}
+use Rattle.dimacs.specs.Lines.{headerText, headerLine, clauseText, clauseLine, literalsText, literalText}
+use Rattle.clauses.specs.Clauses.{clausesOf, beyond, bars, pairs, each, only, bar, forbid, bitsFor, seek}
+use Rattle.lines.specs.Lined.{textOf, lineText}
+use Rattle.numbers.specs.Twelve.{RoutesFirst, RoutesNone, Lines, line1, line2, Twelve}
 
 by-found : (j : Job) (q : List ℕ) (n : ℕ) → place (routings j) (M j) [] ≡ found q n → RoutesFirst j q n
 by-found j q n e =
@@ -44,6 +49,16 @@ not-111 r =
     let e : false ≡ true = of-routing (jobA 0) (1 ∷ 1 ∷ 1 ∷ []) r .1 in
     let z : _≡_ {A = ℕ} 0 1 = cc in omega arith
 
+-- two lines, and none behind them
+two-lines : (a b : List ℕ) (f : ℕ → List ℕ) → f 0 ≡ a → f 1 ≡ b → (n : ℕ) → n < 2 → f n ≡ getD (a ∷ b ∷ []) n []
+two-lines a b f p q zero h = p
+two-lines a b f p q (suc zero) h = q
+two-lines a b f p q (suc (suc n)) h = absurd (omega arith)
+
+one-lines : Lines jobOne (line1 ∷ line2 ∷ [])
+unfolding textOf headerText headerLine clauseText clauseLine literalsText literalText digits clausesOf beyond bars pairs each only bar forbid bitsFor seek barred tooMany offPerformance performance critical taken countTo anyTo occupied leftEnd share collide trackAt connectionAt
+one-lines = record { counted = refl; each = two-lines line1 line2 (lineText jobOne) refl refl }
+
 pub numbers : Twelve
 numbers =
     record {
@@ -59,4 +74,5 @@ numbers =
       n10 = λ j e. by-found j [] 0 (empty j (M j) e);
       n11 = by-dead (jobA 1) 6 (searched-worked .3);
       n12 = by-found jobOne _ 1 (searched-worked .4);
+      n12-lines = one-lines;
     }

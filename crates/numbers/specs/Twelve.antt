@@ -1,10 +1,13 @@
 -- Document 01, "Numbers to hold against it": the twelve, in its order. Assumes nothing: these are definitions.
 use mathlib.Core.Path.{_≡_}
 use mathlib.Core.List.{List, [], _∷_}
-use Prim.Native.Nat.{ℕ}
+use Prim.Native.Nat.{ℕ, _+_, _<_}
+use lib.ListN.{length, getD}
 use Rattle.channel.specs.Channel.{Job, M, occupiedBy}
 use Rattle.channel.specs.Routing.{Routing, Routable, FirstRouting}
 use Rattle.channel.specs.Verdict.{Need}
+use Rattle.clauses.specs.Clauses.{clauseCount}
+use Rattle.lines.specs.Lined.{lineText}
 use Rattle.channel.specs.Worked.{track1, track2, connection, jobA, jobB, jobOne}
 
 -- a first routing and a need; no routing and a need
@@ -15,6 +18,18 @@ pub record RoutesFirst (j : Job) (q : List ℕ) (n : ℕ) : Type 0 where
 pub record RoutesNone (j : Job) (n : ℕ) : Type 0 where
   pub none : Routable j → ⊥
   pub need : Need j n
+
+-- the lines of a job, 0 to C, are these
+pub record Lines (j : Job) (ls : List (List ℕ)) : Type 0 where
+  pub counted : length ls ≡ clauseCount j + 1
+  pub each : (n : ℕ) → n < length ls → lineText j n ≡ getD ls n []
+
+-- `p cnf 1 1` and `-1 0`, each with its LF
+abbrev pub line1 : List ℕ
+line1 = 112 ∷ 32 ∷ 99 ∷ 110 ∷ 102 ∷ 32 ∷ 49 ∷ 32 ∷ 49 ∷ 10 ∷ []
+
+abbrev pub line2 : List ℕ
+line2 = 45 ∷ 49 ∷ 32 ∷ 48 ∷ 10 ∷ []
 
 pub record Twelve : Type 0 where
   -- 3–4 on track 1 occupies segments 1, 2
@@ -39,5 +54,6 @@ pub record Twelve : Type 0 where
   pub n10 : (j : Job) → M j ≡ 0 → RoutesFirst j [] 0
   -- A with connection 2 critical: none, need 6
   pub n11 : RoutesNone (jobA 1) 6
-  -- T = 1, N = 6, one segment, K = 1, connection 1–6: routing 1, need 1
+  -- T = 1, N = 6, one segment, K = 1, connection 1–6: routing 1, need 1, lines `p cnf 1 1`, `-1 0`
   pub n12 : RoutesFirst jobOne (1 ∷ []) 1
+  pub n12-lines : Lines jobOne (line1 ∷ line2 ∷ [])

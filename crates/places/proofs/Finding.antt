@@ -1,7 +1,7 @@
 -- The place with a number, found group by group; and a number behind the last, which tells how many there are. Assumes nothing.
-use mathlib.Core.Path.{_≡_, refl, sym, ap, _∙_, subst}
-use mathlib.Core.List.{List, _++_}
-use Prim.Native.Nat.{ℕ, _+_, _-_, _^_, _≤_, _<_}
+use mathlib.Core.Path.{_≡_, subst}
+use mathlib.Core.List.{List}
+use Prim.Native.Nat.{ℕ, _+_, _-_, _^_, _≤_}
 use native.Mathlib.Omega.{arith}
 use lib.ListN.{length}
 use Rattle.channel.specs.Limits.{mostTracks, mostConnections}
@@ -9,7 +9,7 @@ use Rattle.clauses.specs.Clauses.{each, bitsFor}
 use Rattle.clauses.proofs.Width.{bitsFor-is}
 use Rattle.places.specs.declared.Place.{Place}
 use Rattle.places.specs.declared.Place.the-variants.{One, Two, Past}
-use Rattle.places.specs.Places.{Tells, beyondOf, barsOf, rowOf, placesOf, Sized, mostCodes}
+use Rattle.places.specs.Places.{Tells, beyondOf, barsOf, rowOf, placesOf, Sized}
 use Rattle.places.specs.Table.{shut, due, tableGrid, manyClauses}
 use Rattle.places.proofs.Walk.{Here, no-place, tells-ahead, tells-behind}
 use Rattle.places.proofs.Sizes.{few-codes}

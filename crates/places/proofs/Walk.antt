@@ -3,7 +3,7 @@ use mathlib.Core.Path.{_≡_, refl, sym, ap, _∙_, subst}
 use mathlib.Core.Logic.{⊎-elim}
 use mathlib.Core.Bool.{Bool, true, false, false≢true}
 use mathlib.Core.List.{List, [], _∷_, _++_}
-use Prim.Native.Nat.{ℕ, zero, suc, _+_, _-_, _≤_, _<_}
+use Prim.Native.Nat.{ℕ, zero, suc, _+_, _≤_, _<_}
 use native.Mathlib.Omega.{arith}
 use native.Mathlib.Numerals.{add-one}
 use lib.ListN.{length, getD, length-append, List·getD-append}
@@ -11,7 +11,6 @@ use lib.Seq.{getD-append-add}
 use types.Run.{OneOf}
 use denote.Enum.Declared.{tagOf}
 use Rattle.channel.specs.Label.{code}
-use Rattle.channel.specs.declared.Code.{Code}
 use Rattle.clauses.specs.Clauses.{each, only}
 use Rattle.clauses.proofs.Each.{length-each, each-room, at-each}
 use Rattle.places.specs.declared.Place.{Place}

@@ -6,7 +6,7 @@ ghost use Prim.Native.Nat.{_+_, _-_, _*_, _≤_, _<_};
 ghost use lib.ListN.{length};
 ghost use Rattle.channel.specs.Limits.{mostTracks, mostConnections};
 ghost use Rattle.clauses.specs.Clauses.{each};
-ghost use Rattle.places.specs.Places.{Tells, beyondOf, barsOf, pairOf, rowOf, placesOf, mostBits, mostCodes, Sized};
+ghost use Rattle.places.specs.Places.{Tells, beyondOf, barsOf, pairOf, rowOf, placesOf, mostCodes, Sized};
 ghost use Rattle.places.specs.Table.{shut, due, tableGrid, manyClauses, Later, Earlier};
 
 // The most codes that w bits have, within the limits.

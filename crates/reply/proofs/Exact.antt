@@ -1,18 +1,20 @@
 -- The answer to a reply, exactly: any two answers are equal, and Accepted is given exactly if the file is a job's, the buffer has room, and the
 -- reply's literals are a model. Assumes nothing.
-use mathlib.Core.Path.{_≡_, sym, ap, subst, _∙_}
-use mathlib.Core.List.{List, _++_}
-use mathlib.Core.Logic.{_↔_}
+use mathlib.Core.Path.{_≡_, refl, sym, ap, subst, _∙_}
+use mathlib.Core.List.{List, [], _∷_, _++_}
+use mathlib.Core.Logic.{_⊎_, _↔_, inl, inr, ⊎-elim}
 use Prim.Native.Nat.{ℕ, _≤_}
 use native.Mathlib.Omega.{arith}
 use lib.ListN.{length, drop}
-use Rattle.refusals.specs.Table.{Passes}
-use Rattle.refusals.proofs.Laws.{decided-one}
+use Rattle.refusals.specs.Table.{FirstBroken, Refuses, Passes}
+use Rattle.refusals.proofs.Laws.{passes-or, passes-row, decided-one}
 use Rattle.channel.specs.Channel.{Job, M}
 use Rattle.channel.specs.Routing.{Routing}
-use Rattle.dimacs.specs.Clause.{valueIn}
+use Rattle.dimacs.specs.Clause.{Literal, Clause, valueIn}
+use Rattle.dimacs.specs.Reply.{Status, satisfiable, unsatisfiable, unknown, statuses, literals}
 use Rattle.dimacs.specs.Model.{holds, Reply, Refused, Accepted, Claimed, Unknown, replyOf}
-use Rattle.dimacs.proofs.Decided.{gives-one, accepted-model, model-accepted}
+use Rattle.dimacs.specs.Refusals.{linesIn, WellFormed, Keeps, Says, Gives, replyRows, Means, is-claimed, is-unknown}
+use Rattle.dimacs.proofs.Decided.{gives-one, means-is, accepted-model, model-accepted}
 use Rattle.clauses.specs.Clauses.{clauses, variableCount, spelled}
 use Rattle.jobfile.specs.Rows.{mOf, jobOf}
 use Rattle.jobfile.specs.Reads.{FileOf}
@@ -85,6 +87,50 @@ module _ (f t l : List ℕ) where
           let e = model-accepted (variableCount (jobOf f)) (clauses (jobOf f)) t (m′ .literals) (m′ .gives) (m′ .model) in
           let few : M (jobOf f) ≤ length l = subst (λ i. M i ≤ length l) d room in
           replies-is (settled-file f j file) (let k = job-numbers f .m-is in omega arith) r l′ g .0 ∙ ap named e
+
+  -- a refusal is given exactly as the table decides
+  pub refused-exactly : (r : Answer) (l′ : List ℕ) → Replies f t l r l′ → (num place : ℕ) → (r ≡ variant.Refused num place) ↔ Refuses (replyCall f (length l) t) num place
+  refused-exactly r l′ g num place = (λ e. subst (λ x. Replies f t l x l′) e g .0, λ h. replies-one r (variant.Refused num place) l′ l g (h, refl) .0)
+
+  -- what the text says without a model passes every row of the text
+  says-passes : (s : Status) (n : ℕ) (cs : List Clause) → Says t (s ∷ []) [] → ((s ≡ unsatisfiable) ⊎ (s ≡ unknown)) → (s ≡ satisfiable → ⊥) → Passes (replyRows n cs t)
+  says-passes s n cs g k no-model = passes-or (passes-row 6 pass6) (passes-or (passes-row 7 (λ p h. other (h .0) (h .1))) (passes-row 8 (λ p h. other (h .0) (h .1))))
+    where
+      other : (xs : List Literal) → Gives t xs → ⊥
+      other xs h = no-model (let e : s ∷ [] ≡ satisfiable ∷ [] = sym (g .status-lines) ∙ h .status-lines in cc)
+
+      keeps : Keeps (s ∷ []) []
+      keeps = inr (⊎-elim (λ e. inl (ap (λ x. x ∷ []) e)) (λ e. inr (ap (λ x. x ∷ []) e)) k, refl)
+
+      pass6 : (p : ℕ) → FirstBroken (WellFormed t) p ⊎ ((((i : ℕ) → WellFormed t i) × (Keeps (statuses (linesIn t)) (literals (linesIn t)) → ⊥)) × (p ≡ 0)) → ⊥
+      pass6 p (inl b) = b .broken (g .well-formed (b .index))
+      pass6 p (inr b) = b .0 .1 (subst (λ x. Keeps x (literals (linesIn t))) (sym (g .status-lines)) (subst (Keeps (s ∷ [])) (sym (g .value-words)) keeps))
+
+  module _ (s : Status) (k : (s ≡ unsatisfiable) ⊎ (s ≡ unknown)) (other : s ≡ satisfiable → ⊥) (a : Reply) (is : (n : ℕ) (cs : List Clause) → Says t (s ∷ []) [] → Passes (replyRows n cs t) → Means n cs t a) where
+    -- a text with such an `s` line is answered by it
+    answered-so : (r : Answer) (l′ : List ℕ) → Replies f t l r l′ → (j : Job) × FileOf f j × (M j ≤ length l) × Says t (s ∷ []) [] → r ≡ named a
+    answered-so r l′ g (j, file, room, h) =
+        let n = variableCount (jobOf f) in
+        let cs = clauses (jobOf f) in
+        let few : M (jobOf f) ≤ length l = subst (λ i. M i ≤ length l) (job-is f j file) room in
+        replies-is (settled-file f j file) (let m = job-numbers f .m-is in omega arith) r l′ g .0 ∙ ap named (means-is n cs t (is n cs h (says-passes s n cs h k other)))
+
+  -- the file and the buffer of an answer without a model
+  room-of : Passes (replyCall f (length l) t) → (j : Job) → FileOf f j → M j ≤ length l
+  room-of p j file = let a = call-room f (length l) t p in let b = job-numbers f .m-is in let c = ap M (job-is f j file) in omega arith
+
+  -- CLAIMED and UNKNOWN, exactly
+  pub claimed-exactly : (r : Answer) (l′ : List ℕ) → Replies f t l r l′ → (r ≡ variant.Claimed) ↔ ((j : Job) × FileOf f j × (M j ≤ length l) × Says t (unsatisfiable ∷ []) [])
+  claimed-exactly r l′ g = (
+    (λ e. let h = subst (λ x. Replies f t l x l′) e g in (h .1 .0 .0, h .1 .0 .1, room-of (h .0) (h .1 .0 .0) (h .1 .0 .1), h .1 .1)),
+    answered-so unsatisfiable (inl refl) (λ e. let z : _≡_ {A = ℕ} 0 1 = cc in absurd (omega arith)) Claimed (λ n cs. is-claimed) r l′ g,
+  )
+
+  pub unknown-exactly : (r : Answer) (l′ : List ℕ) → Replies f t l r l′ → (r ≡ variant.Unknown) ↔ ((j : Job) × FileOf f j × (M j ≤ length l) × Says t (unknown ∷ []) [])
+  unknown-exactly r l′ g = (
+    (λ e. let h = subst (λ x. Replies f t l x l′) e g in (h .1 .0 .0, h .1 .0 .1, room-of (h .0) (h .1 .0 .0) (h .1 .0 .1), h .1 .1)),
+    answered-so unknown (inr refl) (λ e. let z : _≡_ {A = ℕ} 0 1 = cc in absurd (omega arith)) Unknown (λ n cs. is-unknown) r l′ g,
+  )
 
 -- the routing is the only one whose codes the reply's model spells
 pub spells-once : (j : Job) (t p q : List ℕ) → Routing j p → Routing j q → Spells j t p → Spells j t q → p ≡ q

@@ -1,4 +1,4 @@
--- What the inner functions of the entry leave: labels written, rows 8, and rows 6 to 8. Assumes nothing: these are definitions.
+-- What the inner functions of the entry leave: labels written, row 8, and rows 6 to 8. Assumes nothing: these are definitions.
 use mathlib.Core.Path.{_≡_}
 use mathlib.Core.Bool.{Bool}
 use mathlib.Core.List.{List, _++_}

@@ -1,5 +1,5 @@
 -- The reader refuses by rows 1 to 5; then the buffer decides row 9. What the table tells of a line is what the job tells, for the table has the job's clauses.
-use mathlib.Core.Path.{_≡_, refl, subst}
+use mathlib.Core.Path.{refl, subst}
 use native.Mathlib.Omega.{arith}
 use denote.Ref.{now}
 use Rattle.jobfile.specs.Reads.{Reads}
@@ -8,12 +8,6 @@ use Rattle.lines.proofs.Answers.{refused-file, job-limits, refused-room
 use borrow.Author.Needs.{needs}
 use Rattle.lines.proofs.line.Statement.{statement}
 use Rattle.lines.proofs.line.Tie as tie
-use Rattle.lines.proofs.line.Reads as reads
-use Rattle.lines.proofs.line.Lts as lts
-use Rattle.jobfile.proofs.read_job.Reads as read-job-reads
-use Rattle.lines.proofs.line_of.Reads as line-of-reads
-use Rattle.occupancy.proofs.table.Reads as table-reads
-use Rattle.text.proofs.wide.Reads as wide-reads
 
 read-job-requires : tie.Need-read-job-requires
 read-job-requires c κs = search needs

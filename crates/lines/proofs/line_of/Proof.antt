@@ -1,5 +1,5 @@
 -- Line 0 is the header with the counted clauses. Any other line is the clause at the place with the number before it; a number behind the last is above C.
-use mathlib.Core.Path.{_≡_, refl}
+use mathlib.Core.Path.{refl}
 use native.Mathlib.Omega.{arith}
 use denote.Ref.{now}
 use Rattle.lines.proofs.Words.{variables-few}

@@ -1,5 +1,5 @@
 -- One bar or two, and the end of the line: what each call puts down, one after the other, is the line of the clause at the place.
-use mathlib.Core.Path.{_≡_, subst}
+use mathlib.Core.Path.{subst}
 use native.Mathlib.Omega.{arith}
 use denote.Ref.{now}
 use Rattle.text.proofs.Writing.{then}

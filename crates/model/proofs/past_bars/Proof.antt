@@ -1,5 +1,5 @@
 -- The list is made connection by connection; those below `i` are passed, with `k` places in all.
-use mathlib.Core.Path.{_≡_, sym, _∙_}
+use mathlib.Core.Path.{_≡_, sym}
 use Prim.Native.Nat.{_≤_, _+_, _-_, _*_}
 use native.Mathlib.Omega.{arith}
 use borrow.Author.Needs.{needs}
@@ -52,7 +52,7 @@ loop-again c =
     let a = q .before .before .before .args in
     let g = c .before .p .given in
     let f = falseAt (a .codes .now) in
-    let far = bars-far f (shut (a .runs .now)) (a .t) (l .i) (l .k) (g .0 .0) (sym (q .past-bars-of .ensures) ∙ g .1) in
+    let far = bars-far f (l .k) (g .0 .0) (q .past-bars-of .result) (g .1) (shut (a .runs .now)) (a .t) (l .i) (q .past-bars-of .ensures) in
     (omega arith, omega arith, by-passed f (barsOf (shut (a .runs .now)) (a .t)) (a .n) (l .k) (l .i) (a .m) (q .before .loop-test .taken) (l .inv .2) (q .past-bars-of .result) (q .past-bars-of .ensures) (g .0 .0) (g .1))
 
 returns-2 : tie.Need-returns-2 Inv-loop μ-loop

@@ -1,5 +1,5 @@
 -- The list is made connection by connection; those below `h` are passed, with `k` places in all.
-use mathlib.Core.Path.{_≡_, sym, _∙_}
+use mathlib.Core.Path.{_≡_, sym}
 use Prim.Native.Nat.{_≤_, _+_, _-_, _*_}
 use native.Mathlib.Omega.{arith}
 use borrow.Author.Needs.{needs}
@@ -52,7 +52,7 @@ loop-again c =
     let a = q .before .before .before .args in
     let g = c .before .p .given in
     let f = falseAt (a .codes .now) in
-    let far = row-far f (due (a .runs .now)) (a .t) (a .m) (l .h) (l .k) (g .0 .0) (omega arith) (omega arith) (sym (q .past-row .ensures) ∙ g .1) in
+    let far = row-far f (l .k) (g .0 .0) (q .past-row .result) (g .1) (due (a .runs .now)) (a .t) (a .m) (l .h) (omega arith) (omega arith) (q .past-row .ensures) in
     (omega arith, omega arith, by-passed f (rowOf (due (a .runs .now)) (a .t) (a .m)) (a .n) (l .k) (l .h) (a .m) (q .before .loop-test .taken) (l .inv .2) (q .past-row .result) (q .past-row .ensures) (g .0 .0) (g .1))
 
 returns-2 : tie.Need-returns-2 Inv-loop μ-loop

@@ -1,5 +1,5 @@
 -- The list is made connection by connection; those up to h have no place with h, and those below `i` are passed, with `k` places in all.
-use mathlib.Core.Path.{_≡_, sym, _∙_}
+use mathlib.Core.Path.{_≡_, sym}
 use mathlib.Core.List.{List}
 use Prim.Native.Nat.{ℕ, _≤_, _<_, _+_, _-_, _*_}
 use native.Mathlib.Omega.{arith}
@@ -61,7 +61,7 @@ loop-again c =
     let a = q .before .before .before .args in
     let g = c .before .p .given in
     let f = falseAt (a .codes .now) in
-    let far = pair-far f (due (a .runs .now)) (a .t) (a .h) (l .i) (l .k) (g .0 .0) (sym (q .past-pair .ensures) ∙ g .1) in
+    let far = pair-far f (l .k) (g .0 .0) (q .past-pair .result) (g .1) (due (a .runs .now)) (a .t) (a .h) (l .i) (q .past-pair .ensures) in
     (omega arith, omega arith, omega arith, by-passed f (part (a .runs .now) (a .t) (a .h)) (a .n) (l .k) (l .i) (a .m) (q .before .loop-test .taken) (l .inv .3) (q .past-pair .result) (q .past-pair .ensures) (g .0 .0) (g .1))
 
 returns-2 : tie.Need-returns-2 Inv-loop μ-loop

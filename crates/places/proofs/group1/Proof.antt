@@ -10,8 +10,6 @@ use Rattle.places.specs.Places.{beyondOf}
 use Rattle.places.proofs.Walk.{each-start, each-next, hit-each, each-end, beyond-hit, beyond-past}
 use Rattle.places.proofs.group1.Statement.{statement}
 use Rattle.places.proofs.group1.Tie as tie
-use Rattle.places.proofs.group1.Reads as reads
-use Rattle.places.proofs.group1.Lts as lts
 
 abbrev Inv-loop : tie.InvT-loop
 Inv-loop t top m n more k₀ i₀ k i = (i ≤ m) × (length (each i (beyondOf t (top - t))) + k ≡ n)

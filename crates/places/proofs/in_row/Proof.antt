@@ -1,6 +1,6 @@
 -- The connections up to h have no place with h. From there on the list is made connection by connection, and what is passed makes n with what is left to pass.
 use mathlib.Core.Path.{_≡_, refl}
-use Prim.Native.Nat.{ℕ, _≤_, _<_, _+_, _-_}
+use Prim.Native.Nat.{_≤_, _<_, _+_, _-_}
 use native.Mathlib.Omega.{arith}
 use borrow.Author.Needs.{needs}
 use lib.ListN.{length}
@@ -11,8 +11,6 @@ use Rattle.places.proofs.Walk.{each-end, by-here, by-past}
 use Rattle.places.proofs.Due.{row-start}
 use Rattle.places.proofs.in_row.Statement.{statement}
 use Rattle.places.proofs.in_row.Tie as tie
-use Rattle.places.proofs.in_row.Reads as reads
-use Rattle.places.proofs.in_row.Lts as lts
 
 abbrev Inv-loop : tie.InvT-loop
 Inv-loop runs t m h n k₀ i₀ k i = (h < i) × (i ≤ m) × (length (each i (pairOf (due runs) t h)) + k ≡ n)
