@@ -4,9 +4,6 @@ use std::path::Path;
 
 fn main() {
     println!("cargo:rerun-if-env-changed=SILIENVO_LIBRARY");
-    if std::env::var_os("CARGO_FEATURE_STANDIN").is_some() {
-        return;
-    }
     let here = std::env::var("CARGO_MANIFEST_DIR").expect("set by cargo");
     let folder = match std::env::var("SILIENVO_LIBRARY") {
         Ok(folder) => folder.into(),

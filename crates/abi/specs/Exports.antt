@@ -22,6 +22,8 @@ use Rattle.part.specs.declared.Written.{Written}
 use Rattle.part.specs.declared.Written.the-variants as written
 use Rattle.part.specs.P1.{p1}
 use Rattle.part.specs.Writes.{Writes}
+use Rattle.editor.specs.declared.Connection.{Connection as Record}
+use Rattle.editor.specs.Edits.{Edits}
 use Rattle.abi.specs.declared.SilienvoAnswer.{SilienvoAnswer}
 use Rattle.abi.specs.declared.SilienvoJob.{SilienvoJob}
 
@@ -101,3 +103,8 @@ pub record PartSays (bytes : List ℕ) (k : ℕ) (old : List ℕ) (r : SilienvoA
   pub answer : Written
   pub says : Writes p1 bytes k old answer new
   pub is : r ≡ writtenGiven answer
+
+pub record EditSays (cs : List Record) (k b : ℕ) (old : List ℕ) (r : SilienvoAnswer) (new : List ℕ) : Type 0 where
+  pub answer : Verdict
+  pub says : Edits cs k b old answer new
+  pub is : r ≡ verdictGiven answer

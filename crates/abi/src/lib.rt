@@ -1,7 +1,7 @@
 // The exports for C: each public entry on numbers and slices, with an answer of plain numbers. include/silienvo.h says the same in plain words.
 // A slice passes as a pointer and a length. No function has a precondition.
 ghost use mathlib.Core.Path.{_≡_};
-ghost use Rattle.abi.specs.Exports.{ReadFits, jobGiven, verdictGiven, judgementGiven, lineGiven, replyGiven, writtenGiven, ReadSays, RouteSays, JudgeSays, LineSays, ReplySays, PartSays};
+ghost use Rattle.abi.specs.Exports.{ReadFits, jobGiven, verdictGiven, judgementGiven, lineGiven, replyGiven, writtenGiven, ReadSays, RouteSays, JudgeSays, LineSays, ReplySays, PartSays, EditSays};
 use jobfile::Read;
 use judge::Judgement;
 use part::Written;
@@ -224,4 +224,17 @@ pub extern "C" fn silienvo_p1_write(
     ensures { λ r. ⌜ PartSays (now (connections .entry)) limit (now (buffer .entry)) r (now (buffer .exit)) ⌝ }
 {
     written_given(part::write_p1(connections, limit, buffer))
+}
+
+// Routes P1 with these connections, records of three bytes, and the limit K under a budget: kind 1 Routed, 2 Unroutable, 3 Undecided, with the reported trials.
+#[no_mangle]
+pub extern "C" fn silienvo_p1_route(
+    connections: &[editor::Connection],
+    limit: u32,
+    budget: u32,
+    labels: &mut [u8],
+) -> SilienvoAnswer
+    ensures { λ r. ⌜ EditSays (now (connections .entry)) limit budget (now (labels .entry)) r (now (labels .exit)) ⌝ }
+{
+    verdict_given(editor::route_p1(connections, limit, budget, labels))
 }

@@ -31,9 +31,6 @@ pub struct SilienvoConnection {
     pub mark: u8,
 }
 
-#[cfg(feature = "standin")]
-extern crate standin as _;
-
 extern "C" {
     pub fn silienvo_read(file: *const u8, file_len: usize) -> SilienvoJob;
     pub fn silienvo_route(file: *const u8, file_len: usize, budget: u32, labels: *mut u8, labels_len: usize) -> SilienvoAnswer;
