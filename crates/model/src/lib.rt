@@ -7,7 +7,7 @@ ghost use Rattle.channel.specs.Limits.{mostTracks, mostConnections};
 ghost use lib.Dec.{eqb};
 ghost use Rattle.clauses.specs.Clauses.{each, digit, bitsFor};
 ghost use Rattle.places.specs.Places.{beyondOf, barsOf, pairOf, rowOf, placesOf, mostBits, mostCodes};
-ghost use Rattle.places.specs.Table.{shut, due, tableGrid, Later, Earlier};
+ghost use Rattle.places.specs.Table.{shut, due, tableGrid};
 ghost use Rattle.model.specs.Codes.{manyMarks, codeFrom, Codes};
 ghost use Rattle.model.specs.Walks.{falseAt, walk, Below, manyBeyond, manyBars, manyPlaces};
 
@@ -84,16 +84,6 @@ fn past_beyond(codes: &[u8; channel::MOST_CONNECTIONS], t: u8, top: usize, m: us
     Walk::Passed(k)
 }
 
-// Whether the code c is barred for connection i + 1.
-fn is_shut(runs: &[u8; occupancy::TABLE], i: usize, c: u8) -> bool
-    requires { ⌜ i < mostConnections ⌝ }
-    requires { ⌜ c < mostTracks ⌝ }
-    ensures { λ r. ⌜ r ≡ shut (now (runs .entry)) i c ⌝ }
-{
-    let at = 2 * (i * channel::MOST_TRACKS + c as usize);
-    runs[at + 1] < runs[at]
-}
-
 // The barred tracks of connection i + 1, which has this code.
 fn past_bars_of(
     runs: &[u8; occupancy::TABLE],
@@ -111,7 +101,7 @@ fn past_bars_of(
     let mut k = n;
     let mut c: u8 = 0;
     while c < t {
-        if is_shut(runs, i, c) {
+        if places::is_shut(runs, i, c) {
             k += 1;
             if code == c {
                 return Walk::False(k);
@@ -148,31 +138,6 @@ fn past_bars(
     Walk::Passed(k)
 }
 
-// The later of two first segments; the earlier of two last ones.
-fn later(a: u8, b: u8) -> u8
-    ensures { λ r. ⌜ Later a b r ⌝ }
-{
-    if a < b { b } else { a }
-}
-
-fn earlier(a: u8, b: u8) -> u8
-    ensures { λ r. ⌜ Earlier a b r ⌝ }
-{
-    if b < a { b } else { a }
-}
-
-// Whether there is a clause for connections h + 1 and i + 1 on the track with the code c: both runs are there, and they have a segment in common.
-fn is_due(runs: &[u8; occupancy::TABLE], h: usize, i: usize, c: u8) -> bool
-    requires { ⌜ h < i ⌝ }
-    requires { ⌜ i < mostConnections ⌝ }
-    requires { ⌜ c < mostTracks ⌝ }
-    ensures { λ r. ⌜ r ≡ due (now (runs .entry)) h i c ⌝ }
-{
-    let a = 2 * (h * channel::MOST_TRACKS + c as usize);
-    let b = 2 * (i * channel::MOST_TRACKS + c as usize);
-    later(runs[a], runs[b]) <= earlier(runs[a + 1], runs[b + 1])
-}
-
 // The tracks on which connections h + 1 and i + 1 meet.
 fn past_pair(
     runs: &[u8; occupancy::TABLE],
@@ -193,7 +158,7 @@ fn past_pair(
     let mut k = n;
     let mut c: u8 = 0;
     while c < t {
-        if is_due(runs, h, i, c) {
+        if places::is_due(runs, h, i, c) {
             k += 1;
             if first == c {
                 if second == c {

@@ -44,7 +44,7 @@ pub fn size_of(t: u8) -> Size
 }
 
 // Whether the code c is barred for connection i + 1.
-fn is_shut(runs: &[u8; occupancy::TABLE], i: usize, c: u8) -> bool
+pub fn is_shut(runs: &[u8; occupancy::TABLE], i: usize, c: u8) -> bool
     requires { ⌜ i < mostConnections ⌝ }
     requires { ⌜ c < mostTracks ⌝ }
     ensures { λ r. ⌜ r ≡ shut (now (runs .entry)) i c ⌝ }
@@ -106,7 +106,7 @@ fn earlier(a: u8, b: u8) -> u8
 }
 
 // Whether a clause is due for connections h + 1 and i + 1 on the track with the code c: both runs are there, and they have a segment in common.
-fn is_due(runs: &[u8; occupancy::TABLE], h: usize, i: usize, c: u8) -> bool
+pub fn is_due(runs: &[u8; occupancy::TABLE], h: usize, i: usize, c: u8) -> bool
     requires { ⌜ h < i ⌝ }
     requires { ⌜ i < mostConnections ⌝ }
     requires { ⌜ c < mostTracks ⌝ }
