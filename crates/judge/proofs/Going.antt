@@ -2,37 +2,37 @@
 use mathlib.Core.Path.{_≡_, refl, sym, _∙_}
 use mathlib.Core.Bool.{Bool, true, false, not}
 use mathlib.Core.List.{List}
-use Prim.Native.Nat.{ℕ, _+_, _≤_, _<_}
+use Prim.Native.Nat.{ℕ, _+_, _*_, _-_, _≤_, _<_}
 use native.Mathlib.Omega.{arith}
 use borrow.Author.Tests.{not-true, not-false}
 use lib.ListN.{length, getD, take, replicate}
 use lib.Seq.{length-take-le}
 use Rattle.refusals.specs.Table.{Searched, all-keep, one-breaks}
-use Rattle.channel.specs.Channel.{T, M}
+use Rattle.channel.specs.Channel.{T, M, trackAt, connectionAt}
 use Rattle.channel.specs.Routing.{routings}
-use Rattle.jobfile.specs.Rows.{tOf, mOf, jobOf}
-use Rattle.jobfile.specs.Reads.{Facts}
+use Rattle.jobfile.specs.Rows.{nOf, tOf, mOf, kOf, connectionsAt, trackRead, connectionRead, FineAt, jobOf}
+use Rattle.jobfile.specs.Reads.{Facts, Offsets}
 use Rattle.jobfile.proofs.Decode.{job-valid}
 use Rattle.jobfile.proofs.Exact.{job-numbers}
-use Rattle.occupancy.specs.Runs.{Tabled}
-use Rattle.marks.specs.Marking.{markBytes, first, last, Inside, fitsIn, takenIn, marking}
-use Rattle.marks.proofs.Laws.{fits-open}
-use Rattle.marks.proofs.Kept.{Kept, inside, kept-ok, kept-next, kept-nil}
+use Rattle.jobfile.proofs.Places.{track-at, connection-at}
+use Rattle.occupancy.specs.Runs.{Cell}
+use Rattle.marks.specs.Marking.{markBytes, fitsRun, takenRun, Among}
+use Rattle.marks.proofs.Laws.{run-open}
+use Rattle.marks.proofs.Kept.{Kept, among, run-ok, run-next, kept-nil}
 use Rattle.judge.specs.Judges.{LabelKept, RoutingKept}
 use Rattle.judge.proofs.Laws.{kept-fits, legal-kept, take-next}
 
 -- the first i labels are passed, and these are the marks of their connections
-pub record Going (f q runs marks : List ℕ) (i : ℕ) : Type 0 where
+pub record Going (f q marks : List ℕ) (i : ℕ) : Type 0 where
   pub facts : Facts f
-  pub tabled : Tabled (jobOf f) runs
   pub many : length q ≡ mOf f
   pub within : i ≤ length q
   pub kept : Kept (jobOf f) (take i q) (i, marks)
 
-pub going-first : (f q runs : List ℕ) → Facts f → Tabled (jobOf f) runs → length q ≡ mOf f → Going f q runs (replicate markBytes 0) 0
-going-first f q runs g t e = record { facts = g; tabled = t; many = e; within = omega arith; kept = kept-nil (jobOf f) (job-valid f g) runs t }
+pub going-first : (f q : List ℕ) → Facts f → length q ≡ mOf f → Going f q (replicate markBytes 0) 0
+going-first f q g e = record { facts = g; many = e; within = omega arith; kept = kept-nil (jobOf f) }
 
-module _ (f q runs marks : List ℕ) (i : ℕ) (g : Going f q runs marks i) where
+module _ (f q marks : List ℕ) (i : ℕ) (g : Going f q marks i) where
   t-is : T (jobOf f) ≡ tOf f
   t-is = sym (job-numbers f .t-is)
 
@@ -59,35 +59,45 @@ module _ (f q runs marks : List ℕ) (i : ℕ) (g : Going f q runs marks i) wher
     labelled : getD q i 0 ≤ T (jobOf f)
     labelled = omega (arith, t-is)
 
-    -- the test by marks is that of the routings
-    test : fitsIn runs i marks (getD q i 0) ≡ (routings (jobOf f)) .ok (take i q) (getD q i 0)
-    unfolding marking
-    test = kept-ok (jobOf f) (job-valid f (g .facts)) runs (g .tabled) (take i q) (i, marks) (getD q i 0) (g .kept) short low labelled
+    -- the connection is one of the file's, and the table of starts has its track's record
+    pub going-connection : i < mOf f
+    going-connection = omega (arith, g .many)
 
-    pub going-inside : Inside runs i (getD q i 0)
-    going-inside = inside (jobOf f) (job-valid f (g .facts)) runs (g .tabled) i (getD q i 0) (omega (arith, g .many, m-is)) low labelled
+    pub going-fine : (heads : List ℕ) → Offsets f heads → FineAt f (nOf f) (connectionsAt f) (getD heads (getD q i 0 - 1) 0)
+    going-fine heads o = rw (o .at (getD q i 0 - 1) (omega arith)) (g .facts .fine (getD q i 0 - 1) (omega arith))
 
-    -- what `fits` answered, where the code asks `!fits`
-    module _ (r : Bool) (answer : r ≡ fitsIn runs i marks (getD q i 0)) where
-      pub going-shut : not r ≡ true → Searched (RoutingKept f q) (i + 1)
-      going-shut e = breaks h (λ k. let y = sym (kept-fits (jobOf f) q i h k) ∙ sym test ∙ sym answer ∙ not-true r e in let z : _≡_ {A = ℕ} 0 1 = cc in omega arith)
+    -- the cell that was read there
+    module _ (heads : List ℕ) (o : Offsets f heads) (a e : ℕ) (c : Cell (kOf f) (trackRead f (getD heads (getD q i 0 - 1) 0)) (connectionRead f (connectionsAt f + 3 * i)) a e) where
+      cell : Cell (kOf f) (trackAt (jobOf f .tracks) (getD q i 0)) (connectionAt (jobOf f .connections) i) a e
+      cell = rw (track-at f (g .facts) (getD q i 0) low high, connection-at f (g .facts) i going-connection) (rw (o .at (getD q i 0 - 1) (omega arith)) at c)
 
-      fits : not r ≡ false → fitsIn runs i marks (getD q i 0) ≡ true
-      fits e = sym answer ∙ not-false r e
+      -- the test by marks is that of the routings
+      test : fitsRun marks (getD q i 0) a e ≡ (routings (jobOf f)) .ok (take i q) (getD q i 0)
+      test = run-ok (jobOf f) (job-valid f (g .facts)) (take i q) (i, marks) (getD q i 0) a e (g .kept) short low labelled cell
 
-      pub going-open : not r ≡ false → first runs i (getD q i 0) ≤ last runs i (getD q i 0)
-      going-open e = fits-open runs i marks (getD q i 0) (fits e)
+      pub going-among : Among (getD q i 0) a e
+      going-among = among (jobOf f) (job-valid f (g .facts)) i (getD q i 0) a e low labelled cell
 
-      pub going-on : not r ≡ false → (next : List ℕ) → next ≡ takenIn runs i marks (getD q i 0) → Going f q runs next (i + 1)
-      unfolding marking routings
-      going-on e next n =
-          record {
-            facts = g .facts;
-            tabled = g .tabled;
-            many = g .many;
-            within = omega arith;
-            kept = rw (n, ← take-next (jobOf f) q i h) (kept-next (jobOf f) (job-valid f (g .facts)) runs (g .tabled) (take i q) (i, marks) (getD q i 0) (g .kept) short low labelled (fits e));
-          }
+      -- what `fits_run` answered, where the code asks `!fits_run`
+      module _ (r : Bool) (answer : r ≡ fitsRun marks (getD q i 0) a e) where
+        pub going-shut : not r ≡ true → Searched (RoutingKept f q) (i + 1)
+        going-shut s = breaks h (λ k. let y = sym (kept-fits (jobOf f) q i h k) ∙ sym test ∙ sym answer ∙ not-true r s in let z : _≡_ {A = ℕ} 0 1 = cc in omega arith)
+
+        fits : not r ≡ false → fitsRun marks (getD q i 0) a e ≡ true
+        fits s = sym answer ∙ not-false r s
+
+        pub going-open : not r ≡ false → a ≤ e
+        going-open s = run-open marks (getD q i 0) a e (fits s)
+
+        pub going-on : not r ≡ false → (next : List ℕ) → next ≡ takenRun marks (getD q i 0) a e i → Going f q next (i + 1)
+        unfolding routings
+        going-on s next n =
+            record {
+              facts = g .facts;
+              many = g .many;
+              within = omega arith;
+              kept = rw (n, ← take-next (jobOf f) q i h) (run-next (jobOf f) (job-valid f (g .facts)) (take i q) (i, marks) (getD q i 0) a e (g .kept) short low labelled cell (fits s));
+            }
 
   -- all are passed
   pub going-last : length q ≤ i → Searched (RoutingKept f q) 0

@@ -18,12 +18,13 @@ pub enum Judgement {
 }
 
 // The first connection whose label is outside 1 to T, barred, or collides with an earlier one; 0 if there is none.
-// The marks are those of the connections before it, so that each label is asked once.
+// The marks are those of the connections before it, so that each label is asked once. Of the table of occupied segments only one cell a connection is
+// wanted, that of its label's track, so no table is made.
 fn bad_label(file: &[u8], tracks: u8, labels: &[u8]) -> usize
     requires { ⌜ Facts (now file) × (tracks ≡ tOf (now file)) × (length (now labels) ≡ mOf (now file)) ⌝ }
     ensures { λ r. ⌜ Searched (RoutingKept (now (file .entry)) (now (labels .entry))) r ⌝ }
 {
-    let runs = occupancy::table(file);
+    let heads = jobfile::starts(file);
     let mut marks = [0; MARKS];
     let mut i = 0;
     while i < labels.len() {
@@ -35,10 +36,14 @@ fn bad_label(file: &[u8], tracks: u8, labels: &[u8]) -> usize
         if tracks < label {
             return number;
         }
-        if !marks::fits(&runs, &marks, i, Label(label)) {
+        let code = channel::code_of(Label(label));
+        let run = occupancy::bounds_at(file, heads[wide(code.0)], i);
+        let first = wide(run.first);
+        let last = wide(run.last);
+        if !marks::fits_run(&marks, Label(label), first, last) {
             return number;
         }
-        marks = marks::taken(&runs, marks, i, Label(label));
+        marks = marks::taken_run(&marks, i, Label(label), first, last);
         i += 1;
     }
     0

@@ -20,8 +20,8 @@ use Rattle.channel.specs.Routing.{Legal, clash, routings}
 use Rattle.channel.proofs.Says.{snoc, or-left, or-right, or-both, apart-says, apart-is, nil-legal, more}
 use Rattle.channel.proofs.Validity.{each-at}
 use Rattle.occupancy.specs.Runs.{Run, Cell, Tabled}
-use Rattle.marks.specs.Marking.{markBytes, base, free, allFree, fill, first, last, runAt, runLong, Inside, fitsIn, takenIn, marking}
-use Rattle.marks.proofs.Laws.{all-free-says, all-free-is, fits-open, fill-length, fill-off, fill-at, zeros}
+use Rattle.marks.specs.Marking.{markBytes, base, free, allFree, fill, fitsRun, takenRun, Among, first, last, Inside, fitsIn, takenIn, marking}
+use Rattle.marks.proofs.Laws.{all-free-says, all-free-is, run-open, fill-length, fill-off, fill-at, zeros}
 
 -- connection h + 1 on the track labelled l occupies segment k + 1
 abbrev pub takes : Job → ℕ → ℕ → ℕ → Bool
@@ -77,162 +77,171 @@ apart-by : (j : Job) (h i l : ℕ) → ((k : ℕ) → k < segments (trackAt (j .
 unfolding collide share
 apart-by j h i l f = any-is _ _ (λ k n. false-by _ (λ y. f k n (and-left (takes j h l k) _ y) (and-right (takes j h l k) _ y)))
 
-module _ (j : Job) (v : Valid j) (runs : List ℕ) (t : Tabled j runs) where
-  -- the table's cell, by the label
-  cell : (i l : ℕ) → i < M j → 1 ≤ l → l ≤ T j → Cell (j .limit) (trackAt (j .tracks) l) (connectionAt (j .connections) i) (first runs i l) (last runs i l)
-  cell i l h a b =
-      let e : l - 1 + 1 ≡ l = omega arith in
-      subst (λ (x : ℕ). Cell (j .limit) (trackAt (j .tracks) x) (connectionAt (j .connections) i) (first runs i l) (last runs i l)) e (t .cells i (l - 1) h (omega arith))
+-- the state at first
+pub kept-nil : (j : Job) → Kept j [] (0, replicate markBytes 0)
+kept-nil j = record { placed = refl; long = refl; legal = nil-legal j; marks = λ l k a b n. record { none = λ z h w. absurd (not-suc-le-zero w); owner = λ h z. absurd (let y = zeros markBytes (base l + k) in omega arith) } }
 
+module _ (j : Job) (v : Valid j) where
   few : (l : ℕ) → 1 ≤ l → l ≤ T j → segments (trackAt (j .tracks) l) ≤ mostSegments
   unfolding trackAt
   few l a b = (each-at _ (j .tracks) _ (v .tracks) (l - 1) (omega arith)) .few
 
-  -- a cell that is not shut is a run
-  run : (i l : ℕ) → i < M j → 1 ≤ l → l ≤ T j → first runs i l ≤ last runs i l → Run (trackAt (j .tracks) l) (connectionAt (j .connections) i) (first runs i l) (last runs i l)
-  run i l h a b q = let c = cell i l h a b in c .run (c .shut ∙ le-ltb (last runs i l) (first runs i l) q)
+  -- the cell of connection i + 1 on the track labelled l
+  module _ (i l x y : ℕ) (lo : 1 ≤ l) (hi : l ≤ T j) (c : Cell (j .limit) (trackAt (j .tracks) l) (connectionAt (j .connections) i) x y) where
+    -- a cell that is not shut is a run
+    run : x ≤ y → Run (trackAt (j .tracks) l) (connectionAt (j .connections) i) x y
+    run q = c .run (c .shut ∙ le-ltb y x q)
 
-  pub inside : (i l : ℕ) → i < M j → 1 ≤ l → l ≤ T j → Inside runs i l
-  inside i l h a b =
-      let g = v .limits in
-      record {
-        connection = (let x = g .m-high in omega arith);
-        label-low = a;
-        label-high = (let x = g .t-high in omega arith);
-        short = λ q. (let x = (run i l h a b q) .inside in let y = few l a b in omega arith);
-      }
+    pub among : Among l x y
+    among = record { label-low = lo; label-high = (let g = v .limits .t-high in omega arith); short = λ q. (let r = run q .inside in let w = few l lo hi in omega arith) }
 
-  -- the marks' test is that of the routings
-  pub kept-ok : (p : List ℕ) (s : ℕ × List ℕ) (l : ℕ) → Kept j p s → length p < M j → 1 ≤ l → l ≤ T j → (marking runs (T j)) .ok s l ≡ (routings j) .ok p l
-  unfolding marking fitsIn routings
-  kept-ok p s l k m a b =
-      let at = k .placed in
-      let c = cell (s .0) l (omega arith) a b in
-      (λ i. not (sym (c .shut) i) && allFree (s .1) (runAt runs (s .0) l) (runLong runs (s .0) l))
-      ∙ go (Barred j (s .0) l) refl
-      ∙ (λ i. not (Barred j (at i) l) && not (clash j (at i) l 0 p))
-    where
-      free-of : (Barred j (s .0) l ≡ false) → allFree (s .1) (runAt runs (s .0) l) (runLong runs (s .0) l) ≡ true → clash j (s .0) l 0 p ≡ false
-      free-of o e =
-          let at = k .placed in
-          let c = cell (s .0) l (omega arith) a b in
-          let r = c .run o in
-          apart-is j (s .0) l 0 p (λ h n y.
-          let z : 0 + h ≡ h = omega arith in
-          ap (λ (x : ℕ). Collide j x (s .0) l) z ∙ apart-by j h (s .0) l (λ g w u q.
-          let f = sym (r .is g w) ∙ q in
-          let lo = leb-true (first runs (s .0) l) g (and-left (leb (first runs (s .0) l) g) _ f) in
-          let hi = leb-true g (last runs (s .0) l) (and-right (leb (first runs (s .0) l) g) _ f) in
-          let d : runAt runs (s .0) l + (g - first runs (s .0) l) ≡ base l + g = omega arith in
-          let fr = all-free-says (s .1) (runAt runs (s .0) l) (runLong runs (s .0) l) e (g - first runs (s .0) l) (omega arith) in
-          let zero-mark = eqb-true _ 0 (ap (λ (x : ℕ). free (getD (s .1) x 0)) (sym d) ∙ fr) in
-          tf _ u ((k .marks l g a b w) .none zero-mark h n y)))
+  -- a state, and the cell of the next connection on the track labelled l
+  module _ (p : List ℕ) (s : ℕ × List ℕ) (l x y : ℕ) (k : Kept j p s) (m : length p < M j) (a : 1 ≤ l) (b : l ≤ T j) (c : Cell (j .limit) (trackAt (j .tracks) l) (connectionAt (j .connections) (s .0)) x y) where
+    -- the marks' test is that of the routings
+    pub run-ok : fitsRun (s .1) l x y ≡ (routings j) .ok p l
+    unfolding fitsRun routings
+    run-ok =
+        let at = k .placed in
+        (λ i. not (sym (c .shut) i) && allFree (s .1) (base l + x) (y + 1 - x))
+        ∙ go (Barred j (s .0) l) refl
+        ∙ (λ i. not (Barred j (at i) l) && not (clash j (at i) l 0 p))
+      where
+        free-of : (Barred j (s .0) l ≡ false) → allFree (s .1) (base l + x) (y + 1 - x) ≡ true → clash j (s .0) l 0 p ≡ false
+        free-of o e =
+            let at = k .placed in
+            let r = c .run o in
+            apart-is j (s .0) l 0 p (λ h n w.
+            let z : 0 + h ≡ h = omega arith in
+            ap (λ (x : ℕ). Collide j x (s .0) l) z ∙ apart-by j h (s .0) l (λ g t u q.
+            let f = sym (r .is g t) ∙ q in
+            let lo = leb-true x g (and-left (leb x g) _ f) in
+            let hi = leb-true g y (and-right (leb x g) _ f) in
+            let d : base l + x + (g - x) ≡ base l + g = omega arith in
+            let fr = all-free-says (s .1) (base l + x) (y + 1 - x) e (g - x) (omega arith) in
+            let zero-mark = eqb-true _ 0 (ap (λ (x : ℕ). free (getD (s .1) x 0)) (sym d) ∙ fr) in
+            tf _ u ((k .marks l g a b t) .none zero-mark h n w)))
 
-      of-clash : (Barred j (s .0) l ≡ false) → clash j (s .0) l 0 p ≡ false → allFree (s .1) (runAt runs (s .0) l) (runLong runs (s .0) l) ≡ true
-      of-clash o e =
-          let at = k .placed in
-          let c = cell (s .0) l (omega arith) a b in
-          let r = c .run o in
-          let ins = r .inside in
-          all-free-is (s .1) (runAt runs (s .0) l) (runLong runs (s .0) l) (λ d n.
-          let g : ℕ = first runs (s .0) l + d in
-          let w : g < cuts j l = omega arith in
-          let lo = le-leb (first runs (s .0) l) g (omega arith) in
-          let hi = le-leb g (last runs (s .0) l) (omega arith) in
-          let tk = r .is g w ∙ and-both (leb (first runs (s .0) l) g) _ lo hi in
-          let q : runAt runs (s .0) l + d ≡ base l + g = omega arith in
-          ap (λ (x : ℕ). free (getD (s .1) x 0)) q ∙ mark-free (getD (s .1) (base l + g) 0) g w (k .marks l g a b w) tk e)
-        where
-          mark-free : (mk g : ℕ) → g < cuts j l → Owned j p l g mk → takes j (s .0) l g ≡ true → clash j (s .0) l 0 p ≡ false → free mk ≡ true
-          mark-free zero g w o tk e = refl
-          mark-free (suc h) g w o tk e =
-              let f = o .owner h refl in
-              let z : h ≡ 0 + h = omega arith in
-              absurd (apart-at j h (s .0) l g (ap (λ (x : ℕ). Collide j x (s .0) l) z ∙ apart-says j (s .0) l 0 p e h (f .0) (f .1)) w (f .2) tk)
+        of-clash : (Barred j (s .0) l ≡ false) → clash j (s .0) l 0 p ≡ false → allFree (s .1) (base l + x) (y + 1 - x) ≡ true
+        of-clash o e =
+            let at = k .placed in
+            let r = c .run o in
+            let ins = r .inside in
+            all-free-is (s .1) (base l + x) (y + 1 - x) (λ d n.
+            let g : ℕ = x + d in
+            let w : g < cuts j l = omega arith in
+            let lo = le-leb x g (omega arith) in
+            let hi = le-leb g y (omega arith) in
+            let tk = r .is g w ∙ and-both (leb x g) _ lo hi in
+            let q : base l + x + d ≡ base l + g = omega arith in
+            ap (λ (x : ℕ). free (getD (s .1) x 0)) q ∙ mark-free (getD (s .1) (base l + g) 0) g w (k .marks l g a b w) tk e)
+          where
+            mark-free : (mk g : ℕ) → g < cuts j l → Owned j p l g mk → takes j (s .0) l g ≡ true → clash j (s .0) l 0 p ≡ false → free mk ≡ true
+            mark-free zero g w o tk e = refl
+            mark-free (suc h) g w o tk e =
+                let f = o .owner h refl in
+                let z : h ≡ 0 + h = omega arith in
+                absurd (apart-at j h (s .0) l g (ap (λ (x : ℕ). Collide j x (s .0) l) z ∙ apart-says j (s .0) l 0 p e h (f .0) (f .1)) w (f .2) tk)
 
-      go : (x : Bool) → Barred j (s .0) l ≡ x → (not (Barred j (s .0) l) && allFree (s .1) (runAt runs (s .0) l) (runLong runs (s .0) l)) ≡ (not (Barred j (s .0) l) && not (clash j (s .0) l 0 p))
-      go true e = (λ i. not (e i) && allFree (s .1) (runAt runs (s .0) l) (runLong runs (s .0) l)) ∙ (λ i. not (sym e i) && not (clash j (s .0) l 0 p))
-      go false e = ap (λ x. not (Barred j (s .0) l) && x) (iff _ (not (clash j (s .0) l 0 p)) (λ f. ap not (free-of e f)) (λ f. of-clash e (not-true _ f)))
+        go : (z : Bool) → Barred j (s .0) l ≡ z → (not (Barred j (s .0) l) && allFree (s .1) (base l + x) (y + 1 - x)) ≡ (not (Barred j (s .0) l) && not (clash j (s .0) l 0 p))
+        go true e = (λ i. not (e i) && allFree (s .1) (base l + x) (y + 1 - x)) ∙ (λ i. not (sym e i) && not (clash j (s .0) l 0 p))
+        go false e = ap (λ x. not (Barred j (s .0) l) && x) (iff _ (not (clash j (s .0) l 0 p)) (λ f. ap not (free-of e f)) (λ f. of-clash e (not-true _ f)))
 
-  -- one mark, when connection s .0 + 1 is placed on l
-  owned-next : (p : List ℕ) (s : ℕ × List ℕ) (l m g : ℕ) → Kept j p s → s .0 < M j → first runs (s .0) l ≤ last runs (s .0) l → 1 ≤ l → l ≤ T j → 1 ≤ m → m ≤ T j → g < segments (trackAt (j .tracks) m) → Owned j (p ++ (l ∷ [])) m g (getD (fill (s .0 + 1) (s .1) (runAt runs (s .0) l) (runLong runs (s .0) l)) (base m + g) 0)
-  owned-next p s l m g k i q a b c d n = go (eqb l m) refl
-    where
-      r : Run (trackAt (j .tracks) l) (connectionAt (j .connections) (s .0)) (first runs (s .0) l) (last runs (s .0) l)
-      r = run (s .0) l i a b q
+    -- one mark, when connection s .0 + 1 is placed on l
+    owned-next : (m g : ℕ) → x ≤ y → 1 ≤ m → m ≤ T j → g < segments (trackAt (j .tracks) m) → Owned j (p ++ (l ∷ [])) m g (getD (fill (s .0 + 1) (s .1) (base l + x) (y + 1 - x)) (base m + g) 0)
+    owned-next m g q u d n = go (eqb l m) refl
+      where
+        r : Run (trackAt (j .tracks) l) (connectionAt (j .connections) (s .0)) x y
+        r = run (s .0) l x y a b c q
 
-      was : Owned j p m g (getD (s .1) (base m + g) 0)
-      was = k .marks m g c d n
+        was : Owned j p m g (getD (s .1) (base m + g) 0)
+        was = k .marks m g u d n
 
-      longer : length (p ++ (l ∷ [])) ≡ length p + 1
-      longer = length-append p (l ∷ [])
+        longer : length (p ++ (l ∷ [])) ≡ length p + 1
+        longer = length-append p (l ∷ [])
 
-      -- as it was, and the new connection does not have the segment
-      keep : (x : ℕ) → x ≡ getD (s .1) (base m + g) 0 → (l ≡ m → takes j (s .0) m g ≡ false) → Owned j (p ++ (l ∷ [])) m g x
-      keep x e f =
-          record {
-            none = λ z h w. snoc (λ h u. u ≡ m → takes j h m g ≡ false) p l (λ h w y. was .none (sym e ∙ z) h w y) (λ q. ap (λ (x : ℕ). takes j x m g) (sym (k .placed)) ∙ f q) h w;
-            owner = λ h z. let o = was .owner h (sym e ∙ z) in let x = o .0 in let y = longer in (omega arith, List·getD-append p (l ∷ []) 0 h (o .0) ∙ o .1, o .2);
-          }
+        -- as it was, and the new connection does not have the segment
+        keep : (x : ℕ) → x ≡ getD (s .1) (base m + g) 0 → (l ≡ m → takes j (s .0) m g ≡ false) → Owned j (p ++ (l ∷ [])) m g x
+        keep x e f =
+            record {
+              none = λ z h w. snoc (λ h u. u ≡ m → takes j h m g ≡ false) p l (λ h w y. was .none (sym e ∙ z) h w y) (λ q. ap (λ (x : ℕ). takes j x m g) (sym (k .placed)) ∙ f q) h w;
+              owner = λ h z. let o = was .owner h (sym e ∙ z) in let x = o .0 in let y = longer in (omega arith, List·getD-append p (l ∷ []) 0 h (o .0) ∙ o .1, o .2);
+            }
 
-      take : (x : ℕ) → x ≡ s .0 + 1 → l ≡ m → takes j (s .0) m g ≡ true → Owned j (p ++ (l ∷ [])) m g x
-      take x e q f =
-          record {
-            none = λ z. absurd (omega arith);
-            owner = λ h z. (let y = longer in let x = k .placed in let h′ : h ≡ length p = omega arith in let h″ : h ≡ s .0 = omega arith in
-                (omega arith, ap (λ (x : ℕ). getD (p ++ (l ∷ [])) x 0) h′ ∙ getD-append-seam p l [] 0 ∙ q, ap (λ (x : ℕ). takes j x m g) h″ ∙ f));
-          }
+        take : (x : ℕ) → x ≡ s .0 + 1 → l ≡ m → takes j (s .0) m g ≡ true → Owned j (p ++ (l ∷ [])) m g x
+        take x e q f =
+            record {
+              none = λ z. absurd (omega arith);
+              owner = λ h z. (let y = longer in let x = k .placed in let h′ : h ≡ length p = omega arith in let h″ : h ≡ s .0 = omega arith in
+                  (omega arith, ap (λ (x : ℕ). getD (p ++ (l ∷ [])) x 0) h′ ∙ getD-append-seam p l [] 0 ∙ q, ap (λ (x : ℕ). takes j x m g) h″ ∙ f));
+            }
 
-      go : (x : Bool) → eqb l m ≡ x → Owned j (p ++ (l ∷ [])) m g (getD (fill (s .0 + 1) (s .1) (runAt runs (s .0) l) (runLong runs (s .0) l)) (base m + g) 0)
-      go false e =
-          let ne = eqb-false l m e in
-          let ins = r .inside in
-          let fl = few l a b in
-          let fm = few m c d in
-          keep _ (fill-off (s .0 + 1) (s .1) (runAt runs (s .0) l) (runLong runs (s .0) l) (base m + g) (λ h w z. ne (omega arith))) (λ z. absurd (ne z))
-      go true e = on (eqb-true l m e) (takes j (s .0) l g) refl
-        where
-          on : l ≡ m → (x : Bool) → takes j (s .0) l g ≡ x → Owned j (p ++ (l ∷ [])) m g (getD (fill (s .0 + 1) (s .1) (runAt runs (s .0) l) (runLong runs (s .0) l)) (base m + g) 0)
-          on z true y =
-              let n′ : g < cuts j l = subst (λ (u : ℕ). g < cuts j u) (sym z) n in
-              let f = sym (r .is g n′) ∙ y in
-              let lo = leb-true (first runs (s .0) l) g (and-left (leb (first runs (s .0) l) g) _ f) in
-              let hi = leb-true g (last runs (s .0) l) (and-right (leb (first runs (s .0) l) g) _ f) in
-              let at : base m + g ≡ runAt runs (s .0) l + (g - first runs (s .0) l) = omega arith in
-              let lg = k .long in
-              let th = v .limits .t-high in
-              let ins = r .inside in
-              let fl = few l a b in
-              take _ (ap (λ (u : ℕ). getD (fill (s .0 + 1) (s .1) (runAt runs (s .0) l) (runLong runs (s .0) l)) u 0) at ∙ fill-at (s .0 + 1) (s .1) (runAt runs (s .0) l) (runLong runs (s .0) l) (g - first runs (s .0) l) (omega arith) (omega arith)) z (ap (λ (u : ℕ). takes j (s .0) u g) (sym z) ∙ y)
-          on z false y =
-              let n′ : g < cuts j l = subst (λ (u : ℕ). g < cuts j u) (sym z) n in
-              keep _ (fill-off (s .0 + 1) (s .1) (runAt runs (s .0) l) (runLong runs (s .0) l) (base m + g) (λ h w u.
-              let lo = le-leb (first runs (s .0) l) g (omega arith) in
-              let hi = le-leb g (last runs (s .0) l) (omega arith) in
-              tf _ (r .is g n′ ∙ and-both (leb (first runs (s .0) l) g) _ lo hi) y)) (λ z. ap (λ (u : ℕ). takes j (s .0) u g) (sym z) ∙ y)
+        go : (z : Bool) → eqb l m ≡ z → Owned j (p ++ (l ∷ [])) m g (getD (fill (s .0 + 1) (s .1) (base l + x) (y + 1 - x)) (base m + g) 0)
+        go false e =
+            let ne = eqb-false l m e in
+            let ins = r .inside in
+            let fl = few l a b in
+            let fm = few m u d in
+            keep _ (fill-off (s .0 + 1) (s .1) (base l + x) (y + 1 - x) (base m + g) (λ h w z. ne (omega arith))) (λ z. absurd (ne z))
+        go true e = on (eqb-true l m e) (takes j (s .0) l g) refl
+          where
+            on : l ≡ m → (t : Bool) → takes j (s .0) l g ≡ t → Owned j (p ++ (l ∷ [])) m g (getD (fill (s .0 + 1) (s .1) (base l + x) (y + 1 - x)) (base m + g) 0)
+            on z true t =
+                let n′ : g < cuts j l = subst (λ (u : ℕ). g < cuts j u) (sym z) n in
+                let f = sym (r .is g n′) ∙ t in
+                let lo = leb-true x g (and-left (leb x g) _ f) in
+                let hi = leb-true g y (and-right (leb x g) _ f) in
+                let at : base m + g ≡ base l + x + (g - x) = omega arith in
+                let lg = k .long in
+                let th = v .limits .t-high in
+                let ins = r .inside in
+                let fl = few l a b in
+                take _ (ap (λ (u : ℕ). getD (fill (s .0 + 1) (s .1) (base l + x) (y + 1 - x)) u 0) at ∙ fill-at (s .0 + 1) (s .1) (base l + x) (y + 1 - x) (g - x) (omega arith) (omega arith)) z (ap (λ (u : ℕ). takes j (s .0) u g) (sym z) ∙ t)
+            on z false t =
+                let n′ : g < cuts j l = subst (λ (u : ℕ). g < cuts j u) (sym z) n in
+                keep _ (fill-off (s .0 + 1) (s .1) (base l + x) (y + 1 - x) (base m + g) (λ h w u.
+                let lo = le-leb x g (omega arith) in
+                let hi = le-leb g y (omega arith) in
+                tf _ (r .is g n′ ∙ and-both (leb x g) _ lo hi) t)) (λ z. ap (λ (u : ℕ). takes j (s .0) u g) (sym z) ∙ t)
 
-  -- the state after a label that fits
-  pub kept-next : (p : List ℕ) (s : ℕ × List ℕ) (l : ℕ) → Kept j p s → length p < M j → 1 ≤ l → l ≤ T j → (marking runs (T j)) .ok s l ≡ true → Kept j ((routings j) .next p l) ((marking runs (T j)) .next s l)
-  unfolding marking takenIn routings
-  kept-next p s l k m a b e =
-      let at = k .placed in
-      let y = length-append p (l ∷ []) in
-      record {
-        placed = omega arith;
-        long = fill-length (s .0 + 1) (s .1) (runAt runs (s .0) l) (runLong runs (s .0) l) ∙ k .long;
-        legal = more j p l (k .legal) m a b (sym (kept-ok p s l k m a b) ∙ e);
-        marks = λ u g c d n. owned-next p s l u g k (omega arith) (fits-open runs (s .0) (s .1) l e) a b c d n;
-      }
+    -- the state after a label that fits
+    pub run-next : fitsRun (s .1) l x y ≡ true → Kept j ((routings j) .next p l) (s .0 + 1, takenRun (s .1) l x y (s .0))
+    unfolding takenRun routings
+    run-next e =
+        let at = k .placed in
+        let w = length-append p (l ∷ []) in
+        record {
+          placed = omega arith;
+          long = fill-length (s .0 + 1) (s .1) (base l + x) (y + 1 - x) ∙ k .long;
+          legal = more j p l (k .legal) m a b (sym run-ok ∙ e);
+          marks = λ u g t d n. owned-next u g (run-open (s .1) l x y e) t d n;
+        }
 
-  -- the state at first
-  pub kept-nil : Kept j [] (0, replicate markBytes 0)
-  kept-nil = record { placed = refl; long = refl; legal = nil-legal j; marks = λ l k a b n. record { none = λ z h w. absurd (not-suc-le-zero w); owner = λ h z. absurd (let y = zeros markBytes (base l + k) in omega arith) } }
+  -- the same by the table, which has the cells of all
+  module _ (runs : List ℕ) (t : Tabled j runs) where
+    cell : (i l : ℕ) → i < M j → 1 ≤ l → l ≤ T j → Cell (j .limit) (trackAt (j .tracks) l) (connectionAt (j .connections) i) (first runs i l) (last runs i l)
+    cell i l h a b =
+        let e : l - 1 + 1 ≡ l = omega arith in
+        subst (λ (x : ℕ). Cell (j .limit) (trackAt (j .tracks) x) (connectionAt (j .connections) i) (first runs i l) (last runs i l)) e (t .cells i (l - 1) h (omega arith))
 
-  -- the search by marks is the search by routings
-  pub by-marking : place (marking runs (T j)) (M j) (0, replicate markBytes 0) ≡ place (routings j) (M j) []
-  unfolding marking routings
-  by-marking =
-      same-place (marking runs (T j)) (routings j) (λ r s p. Kept j p s × (length p + r ≡ M j)) refl
-      (λ r s p l h a b. let e = h .1 in kept-ok p s l (h .0) (omega arith) a b)
-      (λ r s p l h a b o. let e = h .1 in let y = length-append p (l ∷ []) in (kept-next p s l (h .0) (omega arith) a b o, omega arith))
-      (M j) (0, replicate markBytes 0) [] (kept-nil, omega arith)
+    pub inside : (i l : ℕ) → i < M j → 1 ≤ l → l ≤ T j → Inside runs i l
+    inside i l h a b = record { connection = (let x = v .limits .m-high in omega arith); among = among i l (first runs i l) (last runs i l) a b (cell i l h a b) }
+
+    next-cell : (p : List ℕ) (s : ℕ × List ℕ) (l : ℕ) → Kept j p s → length p < M j → 1 ≤ l → l ≤ T j → Cell (j .limit) (trackAt (j .tracks) l) (connectionAt (j .connections) (s .0)) (first runs (s .0) l) (last runs (s .0) l)
+    next-cell p s l k m a b = let e = k .placed in cell (s .0) l (omega arith) a b
+
+    pub kept-ok : (p : List ℕ) (s : ℕ × List ℕ) (l : ℕ) → Kept j p s → length p < M j → 1 ≤ l → l ≤ T j → (marking runs (T j)) .ok s l ≡ (routings j) .ok p l
+    unfolding marking fitsIn
+    kept-ok p s l k m a b = run-ok p s l (first runs (s .0) l) (last runs (s .0) l) k m a b (next-cell p s l k m a b)
+
+    pub kept-next : (p : List ℕ) (s : ℕ × List ℕ) (l : ℕ) → Kept j p s → length p < M j → 1 ≤ l → l ≤ T j → (marking runs (T j)) .ok s l ≡ true → Kept j ((routings j) .next p l) ((marking runs (T j)) .next s l)
+    unfolding marking fitsIn takenIn
+    kept-next p s l k m a b e = run-next p s l (first runs (s .0) l) (last runs (s .0) l) k m a b (next-cell p s l k m a b) e
+
+    -- the search by marks is the search by routings
+    pub by-marking : place (marking runs (T j)) (M j) (0, replicate markBytes 0) ≡ place (routings j) (M j) []
+    unfolding marking routings
+    by-marking =
+        same-place (marking runs (T j)) (routings j) (λ r s p. Kept j p s × (length p + r ≡ M j)) refl
+        (λ r s p l h a b. let e = h .1 in kept-ok p s l (h .0) (omega arith) a b)
+        (λ r s p l h a b o. let e = h .1 in let y = length-append p (l ∷ []) in (kept-next p s l (h .0) (omega arith) a b o, omega arith))
+        (M j) (0, replicate markBytes 0) [] (kept-nil j, omega arith)

@@ -12,7 +12,7 @@ use lib.Dec.{ltb}
 use lib.ListN.{length, getD, set, length-set, replicate}
 use lib.Seq.{getD-set-same, getD-set-other}
 use Rattle.search.proofs.Settling.{and-left, and-right, and-both}
-use Rattle.marks.specs.Marking.{free, allFree, fill, first, last, fitsIn}
+use Rattle.marks.specs.Marking.{free, allFree, fill, fitsRun, first, last, fitsIn}
 
 -- a run is free: each of its marks is
 pub all-free-says : (marks : List ℕ) (at n : ℕ) → allFree marks at n ≡ true → (k : ℕ) → k < n → free (getD marks (at + k) 0) ≡ true
@@ -69,10 +69,14 @@ fill-at v marks at (suc n) k w l =
     (λ (q : k < n). getD-set-other (fill v marks at n) (at + n) (at + k) v 0 (λ z. omega arith) ∙ fill-at v marks at n k (omega arith) q)
     (eq-or-lt-of-le (le-of-suc-le-suc l))
 
--- a track that fits is not barred: its run has a segment
+-- a run that fits has a segment: its last is not before the first; the same by the table
+pub run-open : (marks : List ℕ) (l a e : ℕ) → fitsRun marks l a e ≡ true → a ≤ e
+unfolding fitsRun
+run-open marks l a e q = ltb-false e a (not-true _ (and-left (not (ltb e a)) _ q))
+
 pub fits-open : (runs : List ℕ) (i : ℕ) (marks : List ℕ) (l : ℕ) → fitsIn runs i marks l ≡ true → first runs i l ≤ last runs i l
 unfolding fitsIn
-fits-open runs i marks l e = ltb-false (last runs i l) (first runs i l) (not-true _ (and-left (not (ltb (last runs i l) (first runs i l))) _ e))
+fits-open runs i marks l e = run-open marks l (first runs i l) (last runs i l) e
 
 -- no mark is set at first
 pub zeros : (n k : ℕ) → _≡_ {A = ℕ} (getD (replicate n 0) k 0) 0

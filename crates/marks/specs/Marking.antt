@@ -30,34 +30,40 @@ unfoldable pub fill : ℕ → List ℕ → ℕ → ℕ → List ℕ
 fill v marks at zero = marks
 fill v marks at (suc n) = set (fill v marks at n) (at + n) v
 
+module _ (marks : List ℕ) (l a e : ℕ) where
+  -- a connection whose first and last segment on the track labelled l are a and e fits there beside those that are marked: its last segment is not before the first, and its run is free
+  unfoldable pub fitsRun : Bool
+  fitsRun = not (ltb e a) && allFree marks (base l + a) (e + 1 - a)
+
+  -- the marks with those of connection i + 1 on that run
+  unfoldable pub takenRun : ℕ → List ℕ
+  takenRun i = fill (i + 1) marks (base l + a) (e + 1 - a)
+
+-- the label is one of the marks', and a run ends among the marks of its track
+pub record Among (l a e : ℕ) : Type 0 where
+  pub label-low : 1 ≤ l
+  pub label-high : l ≤ mostTracks
+  pub short : a ≤ e → e < mostSegments
+
 module _ (runs : List ℕ) (i l : ℕ) where
-  -- the first and last segment of connection i + 1 on the track labelled l, where their marks start, and how many there are
+  -- the first and last segment of connection i + 1 on the track labelled l, in the table
   abbrev pub first : ℕ
   first = firstIn runs i (l - 1)
 
   abbrev pub last : ℕ
   last = lastIn runs i (l - 1)
 
-  abbrev pub runAt : ℕ
-  runAt = base l + first
-
-  abbrev pub runLong : ℕ
-  runLong = last + 1 - first
-
-  -- connection and label are in the table, and a run ends among the marks of its track
+  -- connection and label are in the table, and the run is among the marks
   pub record Inside : Type 0 where
     pub connection : i < mostConnections
-    pub label-low : 1 ≤ l
-    pub label-high : l ≤ mostTracks
-    pub short : first ≤ last → last < mostSegments
+    pub among : Among l first last
 
--- connection i + 1 fits on the track labelled l beside those that are marked: its last segment is not before the first, and its run is free
+-- connection i + 1 fits on the track labelled l, and the marks with those it takes there, by the table
 unfoldable pub fitsIn : List ℕ → ℕ → List ℕ → ℕ → Bool
-fitsIn runs i marks l = not (ltb (last runs i l) (first runs i l)) && allFree marks (runAt runs i l) (runLong runs i l)
+fitsIn runs i marks l = fitsRun marks l (first runs i l) (last runs i l)
 
--- the marks with those of connection i + 1 on the track labelled l
 unfoldable pub takenIn : List ℕ → ℕ → List ℕ → ℕ → List ℕ
-takenIn runs i marks l = fill (i + 1) marks (runAt runs i l) (runLong runs i l)
+takenIn runs i marks l = takenRun marks l (first runs i l) (last runs i l) i
 
 -- the search by marks over the table of t tracks. The state is the number of placed connections, and the marks
 unfoldable pub marking : List ℕ → ℕ → Space (ℕ × List ℕ)

@@ -1,22 +1,16 @@
 // What the routing program prints, made in a lent buffer; the program itself only reads and writes.
 // Document 01, "Numbers to hold against it": the program's lines. specs/Report.antt has them.
-use channel::Code;
 use channel::Label;
 use channel::MOST_CONNECTIONS;
-use channel::MOST_TRACKS;
 use jobfile::TRAILER;
-use occupancy::TABLE;
 use route::Verdict;
 use text::wide;
-ghost use mathlib.Core.Path.{_≡_};
-ghost use Prim.Native.Nat.{_+_, _-_, _*_, _≤_, _<_};
+ghost use Prim.Native.Nat.{_+_, _*_, _≤_};
 ghost use lib.ListN.{length};
 ghost use Rattle.text.specs.Text.{Wrote};
-ghost use Rattle.channel.specs.Limits.{mostTracks, mostConnections};
 ghost use Rattle.channel.specs.Routing.{Routing};
 ghost use Rattle.jobfile.specs.Rows.{jobOf};
 ghost use Rattle.jobfile.specs.Reads.{Facts};
-ghost use Rattle.occupancy.specs.Runs.{firstIn, lastIn};
 ghost use Rattle.report.specs.Report.{firstRoom, rowRoom, verdictText, refusedText, rowText, rowsText, Printed};
 
 // The program's budget, and the longest input that it reads.
@@ -76,22 +70,6 @@ fn put_row(buf: &mut [u8], at: usize, i: usize, label: usize, first: usize, last
     text::put(buf, to, b'\n')
 }
 
-// The first occupied segment of connection i + 1 on the track with this code, counted from 0.
-fn first_in(runs: &[u8; TABLE], i: usize, code: Code) -> usize
-    requires { ⌜ (i < mostConnections) × (code .0 < mostTracks) ⌝ }
-    ensures { λ r. ⌜ (r ≡ firstIn (now (runs .entry)) i (code .0)) × (r < 256) ⌝ }
-{
-    wide(runs[2 * (i * MOST_TRACKS + wide(code.0))])
-}
-
-// The last one.
-fn last_in(runs: &[u8; TABLE], i: usize, code: Code) -> usize
-    requires { ⌜ (i < mostConnections) × (code .0 < mostTracks) ⌝ }
-    ensures { λ r. ⌜ (r ≡ lastIn (now (runs .entry)) i (code .0)) × (r < 256) ⌝ }
-{
-    wide(runs[2 * (i * MOST_TRACKS + wide(code.0)) + 1])
-}
-
 // The lines of the connections on the tracks of a routing, in order. A table's segments are counted from 0, a line's from 1.
 fn put_rows(buf: &mut [u8], at: usize, file: &[u8], labels: &[u8]) -> usize
     requires { ⌜ Facts (now file) × Routing (jobOf (now file)) (now labels) × (at + length (now labels) * rowRoom ≤ length (now buf)) ⌝ }
@@ -103,8 +81,8 @@ fn put_rows(buf: &mut [u8], at: usize, file: &[u8], labels: &[u8]) -> usize
     let mut i = 0;
     while i < labels.len() {
         let code = channel::code_of(Label(labels[i]));
-        let first = first_in(&runs, i, code);
-        let last = last_in(&runs, i, code);
+        let first = occupancy::first_in(&runs, i, code);
+        let last = occupancy::last_in(&runs, i, code);
         to = put_row(buf, to, i + 1, wide(labels[i]), first + 1, last + 1);
         i += 1;
     }

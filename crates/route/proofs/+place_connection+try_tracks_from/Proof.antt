@@ -219,30 +219,30 @@ unfolding marking
 fitted t c = sym (c .before .fits2 .ensures) ∙ c .if2 .taken
 
 -- what the placing of the next connection answers of the state after the track
-placed : (t : ℕ) (c : Placed t) → let L = c .before .before .before .before .before .before .before .before in let a = L .before .before .args in
+placed : (t : ℕ) (c : Placed t) → let L = c .before .before .before .before .before .before .before .before .before in let a = L .before .before .args in
     Answers (L .loop .left - 1) (a .i + 1) (place (marking (now (a .runs)) (a .tracks)) (a .m - (a .i + 1)) ((marking (now (a .runs)) (a .tracks)) .next (a .i, a .t7) (L .loop .t))) (now (a .labels)) (c .place-connection .result) (c .place-connection .last .1 .0)
 unfolding marking
 placed t c =
-    let L = c .before .before .before .before .before .before .before .before in
+    let L = c .before .before .before .before .before .before .before .before .before in
     let a = L .before .before .args in
     subst (λ (x : List ℕ). Answers (L .loop .left - 1) (a .i + 1) (place (marking (now (a .runs)) (a .tracks)) (a .m - (a .i + 1)) (a .i + 1, x)) (now (a .labels)) (c .place-connection .result) (c .place-connection .last .1 .0)) (c .before .before .taken .ensures)
     (subst (λ (x : List ℕ). Answers (L .loop .left - 1) (a .i + 1) (place (marking (now (a .runs)) (a .tracks)) (a .m - (a .i + 1)) (a .i + 1, c .before .before .taken .result)) x (c .place-connection .result) (c .place-connection .last .1 .0)) (L .loop .inv .same) (c .place-connection .ensures))
 
 -- the loop goes on after a dead end
-on-dead : (t : ℕ) (p : Placed t) (n : ℕ) → p .place-connection .result ≡ Dead n → let L = p .before .before .before .before .before .before .before .before in let a = L .before .before .args in
+on-dead : (t : ℕ) (p : Placed t) (n : ℕ) → p .place-connection .result ≡ Dead n → let L = p .before .before .before .before .before .before .before .before .before in let a = L .before .before .args in
     Going (now (a .runs)) (now (a .labels)) (a .tracks) (a .m) (a .i) (a .t7) (a .budget) (a .from .0) (p .place-connection .last .1 .0) (L .loop .t + 1) n
 on-dead t p n e =
-    let L = p .before .before .before .before .before .before .before .before in
+    let L = p .before .before .before .before .before .before .before .before .before in
     let d = rw e at (placed t p) in
     let k = dead-keeps _ _ _ _ _ _ d in
-    let lt = one-left t (p .before .before .before .before .before .before .before) in
-    let nz = p .before .before .before .before .before .before .if1 .left in
+    let lt = one-left t (p .before .before .before .before .before .before .before .before) in
+    let nz = p .before .before .before .before .before .before .before .if1 .left in
     record {
       same = k .0;
       long = ap length (k .0);
       within = omega arith;
       paid = omega (arith, L .loop .inv .paid);
-      rest = λ r l x. L .loop .inv .rest r l (tries-missed _ _ _ _ _ _ _ _ _ _ _ _ lt (fitted t (p .before .before .before)) nz d (rw (k .0) x));
+      rest = λ r l x. L .loop .inv .rest r l (tries-missed _ _ _ _ _ _ _ _ _ _ _ _ lt (fitted t (p .before .before .before .before)) nz d (rw (k .0) x));
     }
 
 -- the loop goes on past a track that does not fit
@@ -277,7 +277,7 @@ try-tracks-from-taken-requires : (t : ℕ) → try-tracks-from-lts.Need-taken-re
   place-connection-below t,
   place-connection.Post,
 ) (try-tracks-from-at t) try-tracks-from.Post try-tracks-from-Inv-loop try-tracks-from-μ-loop
-try-tracks-from-taken-requires t c κs = (in-table t (c .before .before .before), fits-open _ _ _ _ (sym (c .before .fits2 .ensures) ∙ c .if2 .taken))
+try-tracks-from-taken-requires t c κs = (in-table t (c .before .before .before .before), fits-open _ _ _ _ (sym (c .before .before .fits2 .ensures) ∙ c .before .if2 .taken))
 
 try-tracks-from-add-place-connection : (t : ℕ) → try-tracks-from-lts.Need-add-place-connection (
   fits-reads.Asked,
@@ -299,7 +299,7 @@ try-tracks-from-place-connection-requires :
       place-connection.Post,
     ) (try-tracks-from-at t) try-tracks-from.Post try-tracks-from-Inv-loop try-tracks-from-μ-loop
 try-tracks-from-place-connection-requires t c κs =
-    let L = c .before .before .before .before .before .before .before in
+    let L = c .before .before .before .before .before .before .before .before in
     let p = L .before .before .pre in
     (omega (arith, p .0, p .1 .1), (p .1 .0, omega (arith, p .1 .1), omega (arith, p .1 .2, L .loop .inv .long)))
 
@@ -323,7 +323,7 @@ try-tracks-from-slice-write-labels : (t : ℕ) → try-tracks-from-lts.Need-slic
 ) (try-tracks-from-at t) try-tracks-from.Post try-tracks-from-Inv-loop try-tracks-from-μ-loop
 try-tracks-from-slice-write-labels t c =
     let p = c .before .before .before .before .before in
-    let L = p .before .before .before .before .before .before .before .before in
+    let L = p .before .before .before .before .before .before .before .before .before in
     omega (arith, L .before .before .pre .1 .1, L .before .before .pre .1 .2, L .loop .inv .long, p .place-connection .kept .1 .0)
 
 try-tracks-from-same-length-2 : (t : ℕ) → try-tracks-from-lts.Need-same-length-2 (
@@ -346,8 +346,8 @@ try-tracks-from-returns-2 : (t : ℕ) → try-tracks-from-lts.Need-returns-2 (
 ) (try-tracks-from-at t) try-tracks-from.Post try-tracks-from-Inv-loop try-tracks-from-μ-loop
 try-tracks-from-returns-2 t c =
     let p = c .before .before .before .before .before in
-    let L = p .before .before .before .before .before .before .before .before in
-    L .loop .inv .rest _ _ (tries-hit _ _ _ _ _ _ _ _ _ _ (one-left t (p .before .before .before .before .before .before .before)) (fitted t (p .before .before .before)) (p .before .before .before .before .before .before .if1 .left) (rw (c .before .rest .given .1) at (placed t p)))
+    let L = p .before .before .before .before .before .before .before .before .before in
+    L .loop .inv .rest _ _ (tries-hit _ _ _ _ _ _ _ _ _ _ (one-left t (p .before .before .before .before .before .before .before .before)) (fitted t (p .before .before .before .before)) (p .before .before .before .before .before .before .before .if1 .left) (rw (c .before .rest .given .1) at (placed t p)))
 
 try-tracks-from-enum-known-rest-2 : (t : ℕ) → try-tracks-from-lts.Need-enum-known-rest-2 (
   fits-reads.Asked,
@@ -389,8 +389,8 @@ try-tracks-from-returns-3 : (t : ℕ) → try-tracks-from-lts.Need-returns-3 (
 ) (try-tracks-from-at t) try-tracks-from.Post try-tracks-from-Inv-loop try-tracks-from-μ-loop
 try-tracks-from-returns-3 t c =
     let p = c .before .before .before .before in
-    let L = p .before .before .before .before .before .before .before .before in
-    L .loop .inv .rest _ _ (tries-starved _ _ _ _ _ _ _ _ _ (one-left t (p .before .before .before .before .before .before .before)) (fitted t (p .before .before .before)) (p .before .before .before .before .before .before .if1 .left) (rw (c .enum-told .given .1) at (placed t p)))
+    let L = p .before .before .before .before .before .before .before .before .before in
+    L .loop .inv .rest _ _ (tries-starved _ _ _ _ _ _ _ _ _ (one-left t (p .before .before .before .before .before .before .before .before)) (fitted t (p .before .before .before .before)) (p .before .before .before .before .before .before .before .if1 .left) (rw (c .enum-told .given .1) at (placed t p)))
 
 try-tracks-from-add-t : (t : ℕ) → try-tracks-from-lts.Need-add-t (
   fits-reads.Asked,
@@ -423,8 +423,8 @@ try-tracks-from-loop-again : (t : ℕ) → try-tracks-from-lts.Need-loop-again (
 try-tracks-from-loop-again t c =
     ⊎-elim
     (λ w.
-    let p : Placed t = record { before = record { before = record { before = record { before = c .before; if2 = w .0 }; taken = w .1 }; place-connection-arg = w .2 }; place-connection = w .3 } in
-    rw (w .9, w .10) (on-dead t p (w .7 .given .0 .0) (w .7 .given .1)))
+    let p : Placed t = record { before = record { before = record { before = record { before = record { before = c .before; if2 = w .0 }; marks2 = w .1 }; taken = w .2 }; place-connection-arg = w .3 }; place-connection = w .4 } in
+    rw (w .10, w .11) (on-dead t p (w .8 .given .0 .0) (w .8 .given .1)))
     (λ w.
     let d : Barred t = record { before = c .before; if2 = w .0 } in
     rw (w .1, w .2) (on-barred t d))

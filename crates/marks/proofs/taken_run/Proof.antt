@@ -1,0 +1,49 @@
+-- `taken_run`: the marks of the run get the connection's number.
+use native.Mathlib.Omega.{arith}
+use mathlib.Core.Path.{_∙_}
+use Prim.Native.Nat.{_+_, _-_}
+use denote.Ref.{now}
+use borrow.Author.Needs.{needs}
+use Rattle.marks.specs.Marking.{fill, takenRun}
+use Rattle.marks.proofs.taken_run.Statement.{statement}
+use Rattle.marks.proofs.taken_run.Tie as tie
+
+add-filled : tie.Need-add-filled
+add-filled c = search needs
+
+cast-filled : tie.Need-cast-filled
+cast-filled c = search needs
+
+base-of-requires : tie.Need-base-of-requires
+base-of-requires c κs = let p = c .pre .1 in (p .label-low, p .label-high)
+
+add-filled-2 : tie.Need-add-filled-2
+add-filled-2 c = let p = c .before .pre in let s = p .1 .short (p .2) in omega (arith, c .base-of .ensures .1, p .2)
+
+add-filled-3 : tie.Need-add-filled-3
+add-filled-3 c = let p = c .before .pre in let s = p .1 .short (p .2) in omega arith
+
+sub-filled : tie.Need-sub-filled
+sub-filled c = search needs
+
+filled-requires : tie.Need-filled-requires
+filled-requires c κs = let p = c .before .pre in let s = p .1 .short (p .2) in omega (arith, c .base-of .ensures .1, p .2)
+
+returns : tie.Need-returns
+unfolding takenRun
+returns c =
+    let a = c .before .before .args in
+    c .filled .ensures ∙ (λ i. fill (a .i + 1) (now (a .marks)) (c .before .base-of .ensures .0 i + a .first) (a .last + 1 - a .first))
+
+pub taken-run-spec : {M : Type 1} → statement M
+taken-run-spec =
+    tie.close
+    (tie.spec
+    add-filled
+    cast-filled
+    base-of-requires
+    add-filled-2
+    add-filled-3
+    sub-filled
+    filled-requires
+    returns)
