@@ -6,14 +6,14 @@ use Prim.Native.Nat.{ℕ, zero, suc, _*_, _≤_, _<_}
 use native.Mathlib.Omega.{arith}
 use lib.ListN.{length, getD}
 use Rattle.refusals.specs.Table.{line, before, Refuses, Passes}
-use Rattle.refusals.proofs.Laws.{refuses-left, refuses-right, refuses-row, passes-row, behind-row, behind-or}
+use Rattle.refusals.proofs.Laws.{refuses-left, refuses-right, refuses-row, passes-row, behind-row, behind-or, printed-order}
 use Rattle.text.specs.Text.{Wrote}
 use Rattle.channel.specs.Limits.{mostTracks, mostConnections}
 use Rattle.channel.specs.Channel.{T, M}
 use Rattle.jobfile.specs.declared.Read.the-variants as read
 use Rattle.jobfile.specs.Rows.{fileRows, jobOf}
 use Rattle.jobfile.specs.Reads.{Reads}
-use Rattle.jobfile.proofs.Exact.{told, facts-pass, job-numbers}
+use Rattle.jobfile.proofs.Exact.{told, facts-pass, job-numbers, file-before}
 use Rattle.occupancy.specs.Runs.{Tabled}
 use Rattle.dimacs.specs.Lines.{clauseText, headerText}
 use Rattle.clauses.specs.Clauses.{Grid, gridOf, bitsFor, clausesOf, clauses}
@@ -26,12 +26,7 @@ use Rattle.lines.specs.Writes.{lineRows, Writes}
 
 -- the file's rows stand before 9 and 10
 pub file-early : (f : List ℕ) (x p : ℕ) → fileRows f x p → line x ≤ 4
-unfolding before
-file-early f x p (inl h) = let e : line x ≡ 0 = ap line (h .0) in omega arith
-file-early f x p (inr (inl h)) = let e : line x ≡ 1 = ap line (h .0) in omega arith
-file-early f x p (inr (inr (inl h))) = let e : line x ≡ 2 = ap line (h .0) in omega arith
-file-early f x p (inr (inr (inr (inl h)))) = let e : line x ≡ 3 = ap line (h .0) in omega arith
-file-early f x p (inr (inr (inr (inr h)))) = let e : line x ≡ 4 = ap line (h .0) in omega arith
+file-early f x p h = omega (arith, file-before f x p h, printed-order)
 
 -- the text of a line rests on nothing but the numbers and the clauses
 text-same : (g g′ : Grid) → g .tracks ≡ g′ .tracks → g .connections ≡ g′ .connections → clausesOf g ≡ clausesOf g′ → (n : ℕ) → textOf g n ≡ textOf g′ n

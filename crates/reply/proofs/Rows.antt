@@ -1,5 +1,5 @@
 -- The rows that fit a reply: how a decision of the file's rows, of row 9 or of the text's rows is one of them all. Assumes nothing.
-use mathlib.Core.Path.{refl, ap}
+use mathlib.Core.Path.{refl}
 use mathlib.Core.List.{List}
 use mathlib.Core.Logic.{inl, inr}
 use Prim.Native.Nat.{ℕ, _≤_, _<_}
@@ -12,15 +12,8 @@ use Rattle.dimacs.specs.Refusals.{replyRows}
 use Rattle.dimacs.proofs.Decided.{reply-sound}
 use Rattle.clauses.specs.Clauses.{clauses, variableCount}
 use Rattle.jobfile.specs.Rows.{fileRows, mOf, jobOf}
-use Rattle.jobfile.proofs.Exact.{file-sound}
+use Rattle.jobfile.proofs.Exact.{file-sound, file-before}
 use Rattle.reply.specs.Replies.{replyCall}
-
-file-before : (f : List ℕ) (x p : ℕ) → fileRows f x p → line x < line 9
-file-before f x p (inl h) = let e = ap line (h .0) in omega (arith, printed-order)
-file-before f x p (inr (inl h)) = let e = ap line (h .0) in omega (arith, printed-order)
-file-before f x p (inr (inr (inl h))) = let e = ap line (h .0) in omega (arith, printed-order)
-file-before f x p (inr (inr (inr (inl h)))) = let e = ap line (h .0) in omega (arith, printed-order)
-file-before f x p (inr (inr (inr (inr h)))) = let e = ap line (h .0) in omega (arith, printed-order)
 
 -- the text's rows stand behind row 9
 text-behind : (k n : ℕ) (cs : List Clause) (t : List ℕ) → k ≤ line 6 → Behind k (replyRows n cs t)
