@@ -1,5 +1,7 @@
 //! Times the library's entries. The search is timed beside its twins: five times each in turn, the best of each; then the clause lines of a
-//! largest channel, and replies, short and long. The ratio is to the twin that makes a table, as the library does.
+//! largest channel, and replies, short and long. What a call does before its first trial (it reads and checks the file; the library and one twin make a
+//! table) is timed by a call with the budget 0 and is not in the time of a trial. `ratio` is to the twin that walks the segments at each trial,
+//! `table-ratio` to the one that looks them up in a table, as the library does.
 
 mod jobs;
 mod twin;
@@ -43,16 +45,12 @@ fn twin_words(verdict: twin::Verdict) -> (&'static str, u64) {
     }
 }
 
-/// The library, the twin by a table, and the twin by walking, in turn.
-fn search(job: &Timed) {
+/// Seconds of a call under a budget: the library, the twin by a table, and the twin by walking, in turn; the best of each.
+fn best(job: &Timed, budget: u32) -> [f64; 3] {
     let (mut a, mut b, mut c) = ([0; 64], [0; 64], [0; 64]);
-    assert_eq!(words(silienvo::route(&job.file, job.budget, &mut a).expect("a job")), job.known, "{}", job.name);
-    assert_eq!(twin_words(twin::tabled(&job.file, job.budget, &mut b).expect("a job")), job.known, "{}", job.name);
-    assert_eq!(twin_words(twin::walked(&job.file, job.budget, &mut c).expect("a job")), job.known, "{}", job.name);
-    assert_eq!((a, a), (b, c), "{}", job.name);
-    let mut library = || _ = black_box(silienvo::route(black_box(&job.file), job.budget, &mut a));
-    let mut tabled = || _ = black_box(twin::tabled(black_box(&job.file), job.budget, &mut b));
-    let mut walked = || _ = black_box(twin::walked(black_box(&job.file), job.budget, &mut c));
+    let mut library = || _ = black_box(silienvo::route(black_box(&job.file), budget, &mut a));
+    let mut tabled = || _ = black_box(twin::tabled(black_box(&job.file), budget, &mut b));
+    let mut walked = || _ = black_box(twin::walked(black_box(&job.file), budget, &mut c));
     let n = calls(&mut library);
     let mut best = [f64::MAX; 3];
     for _ in 0..ROUNDS {
@@ -60,13 +58,29 @@ fn search(job: &Timed) {
         best[1] = best[1].min(seconds(n, &mut tabled));
         best[2] = best[2].min(seconds(n, &mut walked));
     }
+    best
+}
+
+/// The three give the same verdict, trials and labels, all as known.
+fn agree(job: &Timed) {
+    let (mut a, mut b, mut c) = ([0; 64], [0; 64], [0; 64]);
+    assert_eq!(words(silienvo::route(&job.file, job.budget, &mut a).expect("a job")), job.known, "{}", job.name);
+    assert_eq!(twin_words(twin::tabled(&job.file, job.budget, &mut b).expect("a job")), job.known, "{}", job.name);
+    assert_eq!(twin_words(twin::walked(&job.file, job.budget, &mut c).expect("a job")), job.known, "{}", job.name);
+    assert_eq!((a, a), (b, c), "{}", job.name);
+}
+
+fn search(job: &Timed) {
+    agree(job);
     let (word, trials) = job.known;
-    let [library, tabled, walked] = best.map(|best| best * 1e9 / trials as f64);
-    println!(
-        "{:<20} {word:<10} {trials:>9} trials, ns a trial: library {library:>7.2}, twin by a table {tabled:>7.2}, twin by walking {walked:>7.2}",
-        job.name
-    );
-    println!("{} ratio {:.2}", job.name, library / tabled);
+    let before = best(job, 0);
+    let whole = best(job, job.budget);
+    let trial: Vec<f64> = whole.iter().zip(&before).map(|(whole, before)| (whole - before) * 1e9 / trials as f64).collect();
+    println!("{:<20} {word:<10} {trials:>9} trials             library  table twin  walking twin", job.name);
+    println!("{:<20} {:<30} {:>15.2} {:>11.2} {:>13.2}", "", "us before the first trial", before[0] * 1e6, before[1] * 1e6, before[2] * 1e6);
+    println!("{:<20} {:<30} {:>15.2} {:>11.2} {:>13.2}", "", "ns a trial", trial[0], trial[1], trial[2]);
+    println!("{} ratio {:.2}", job.name, trial[0] / trial[2]);
+    println!("{} table-ratio {:.2}", job.name, trial[0] / trial[1]);
 }
 
 fn lines(file: &[u8]) {
@@ -111,6 +125,7 @@ fn main() {
         "Lent buffers are lent again as the call before left them: nothing is cleared, by the library or by the twins, inside the time or outside."
     );
     println!("A call reads and checks its file, then routes: so the library, and so the twins. Best of {ROUNDS}, in turn.");
+    println!("`ratio`: a trial of the library by one of the twin that walks the segments; `table-ratio`: by one of the twin with a table.");
     for job in jobs::jobs() {
         search(&job);
     }
