@@ -1,9 +1,15 @@
 /* Silienvo: a segmented channel router whose answers are proved.
  *
- * Link target/staticlib/libabi.a (made by `rt staticlib abi`).
+ * The archive target/staticlib/libsilienvo.a is made by `./build library`, for x86-64 Linux. It needs no other library. To compile against it:
+ *
+ *     cc -Iinclude examples/route.c target/staticlib/libsilienvo.a -o route-c
+ *
+ * examples/route.c calls every function below; this header is C and C++.
  *
  * Every function answers for every input: any bytes, any numbers, any lengths. None has a precondition beyond what C asks of a pointer and its length:
  * the bytes are there, a buffer that is written is not read through another argument, and a length of 0 goes with any non-null pointer.
+ * No function keeps anything from one call to the next, allocates, blocks or calls back: calls may run side by side on any threads, as long as none of them
+ * writes to bytes that another is lent. A call touches at most SILIENVO_STACK bytes of stack.
  *
  * A refusal is kind 0 with the number of a row of the table below and its place. Where several rows hold, the first in this order decides. A refusal changes
  * no byte of a lent buffer, and bytes behind what an answer writes are never touched.
@@ -13,7 +19,8 @@
  *    3  a distance in the trailer is wrong                                                 0
  *    4  a track record breaks its rule or runs into the connections; bytes left over       the track; T + 1 for left over
  *    5  a connection breaks its rule                                                       the connection
- *    9  the lent buffer is too short: M bytes for labels, 62 for a line, a whole P1 file   0
+ *    9  the lent buffer is too short: M bytes for labels, 62 for a line, 16 for each       0
+ *       connection's row, a whole P1 file
  *    6  a reply's line is not well-formed; or its s, v and 0 rules are broken              the line, from 1; 0
  *    7  a literal's variable is above V or was seen before; else variables are missing     the position, from 1; one behind the last
  *    8  the model makes a clause false                                                     the first such clause, from 1
@@ -29,6 +36,30 @@
 #ifdef __cplusplus
 extern "C" {
 #endif
+
+/* The kinds of an answer. 0 is a refusal at every function; each function says which of the others it gives. */
+enum {
+    SILIENVO_REFUSED = 0,
+    SILIENVO_JOB = 1,        /* silienvo_read */
+    SILIENVO_ROUTED = 1,     /* silienvo_route, silienvo_p1_route */
+    SILIENVO_UNROUTABLE = 2,
+    SILIENVO_UNDECIDED = 3,
+    SILIENVO_LEGAL = 1,      /* silienvo_judge */
+    SILIENVO_WRITTEN = 1,    /* silienvo_rows, silienvo_line, silienvo_p1_write */
+    SILIENVO_ACCEPTED = 1,   /* silienvo_reply */
+    SILIENVO_CLAIMED = 2,
+    SILIENVO_UNKNOWN = 3
+};
+
+/* Sizes in bytes that are enough for every job: a buffer for labels (M of them are asked), for the rows of a routing (16 for each connection are asked), for a
+ * clause line, and for a file of house part P1 (58 and 3 for each connection are asked); and the stack of a call. */
+enum {
+    SILIENVO_MOST_LABELS = 64,
+    SILIENVO_MOST_ROWS = 1024,
+    SILIENVO_LINE = 62,
+    SILIENVO_MOST_P1_FILE = 250,
+    SILIENVO_STACK = 196608
+};
 
 /* kind 0: refused by `number` at place `value`. Other kinds, and what `value` then is, stand at each function; `number` is then 0. */
 typedef struct {
@@ -57,29 +88,35 @@ typedef struct {
     uint8_t mark;
 } SilienvoConnection;
 
-/* Reads a job file. kind 1 exactly if the file is the encoding of a valid job. Rows 1-5. */
+/* Reads a job file. kind SILIENVO_JOB exactly if the file is the encoding of a valid job. Rows 1-5. */
 SilienvoJob silienvo_read(const uint8_t *file, size_t file_length);
 
 /* Routes a job under a budget of trials. Rows 1-5, 9.
- * kind 1 Routed: the first M labels are the first legal routing in track order. kind 2 Unroutable: no legal routing exists. With both, value is the job's
- * need, which is at most the budget. kind 3 Undecided: the need is above the budget; value is the budget. Only Routed writes.
+ * kind SILIENVO_ROUTED: the first M labels are the first legal routing in track order. SILIENVO_UNROUTABLE: no legal routing exists. With both, value is
+ * the job's need, which is at most the budget. SILIENVO_UNDECIDED: the need is above the budget; value is the budget. Only Routed writes.
  * A larger budget never changes Routed or Unroutable. */
 SilienvoAnswer silienvo_route(const uint8_t *file, size_t file_length, uint32_t budget, uint8_t *labels, size_t labels_length);
 
-/* Judges a brought routing. Rows 1-5, 11. kind 1 Legal, exactly if the labels are a legal routing of the job. */
+/* Judges a brought routing. Rows 1-5, 11. kind SILIENVO_LEGAL exactly if the labels are a legal routing of the job. */
 SilienvoAnswer silienvo_judge(const uint8_t *file, size_t file_length, const uint8_t *labels, size_t labels_length);
 
-/* Writes line `number` of the clause export, 0 (`p cnf V C`) to C, LF included. Rows 1-5, 9, 10. kind 1: value is the line's length, at most 62.
+/* Writes the rows of a brought routing: for each connection a line with its number, its track, and the first and last segment it occupies, with single blanks
+ * and LF. Rows 1-5, 9, 11 of the table. kind SILIENVO_WRITTEN, exactly if the labels are a legal routing of the job and there is room: value is the text's
+ * length. */
+SilienvoAnswer silienvo_rows(const uint8_t *file, size_t file_length, const uint8_t *labels, size_t labels_length, uint8_t *text, size_t text_length);
+
+/* Writes line `number` of the clause export, 0 (`p cnf V C`) to C, LF included. Rows 1-5, 9, 10. kind SILIENVO_WRITTEN: value is the line's length, at
+ * most SILIENVO_LINE, and that many bytes are always asked of the buffer.
  * The models of the lines together are exactly the codes of the legal routings. */
 SilienvoAnswer silienvo_line(const uint8_t *file, size_t file_length, uint64_t number, uint8_t *buffer, size_t buffer_length);
 
 /* Reads a solver's reply to the exported clauses. Rows 1-5, 9, 6, 7, 8.
- * kind 1 Accepted: its literals are a model, and the first M labels are the legal routing that it spells. kind 2 Claimed: it says UNSATISFIABLE. kind 3
- * Unknown. Only Accepted writes. A reply that was cut anywhere is refused or answered the same; an empty reply is refused by 6, place 0. */
+ * kind SILIENVO_ACCEPTED: its literals are a model, and the first M labels are the legal routing that it spells. SILIENVO_CLAIMED: it says UNSATISFIABLE,
+ * which is never turned into Unroutable. SILIENVO_UNKNOWN: it says UNKNOWN. Only Accepted writes. A reply that was cut anywhere is refused or answered the same; an empty reply is refused by 6, place 0. */
 SilienvoAnswer silienvo_reply(const uint8_t *file, size_t file_length, const uint8_t *text, size_t text_length, uint8_t *labels, size_t labels_length);
 
-/* Writes the job file of house part P1 with these connections, three bytes each (left, right, mark), and the limit K. Rows 2, 5, 9. kind 1: value is the
- * file's length. The reader gives the same values back. */
+/* Writes the job file of house part P1 with these connections, three bytes each (left, right, mark), and the limit K. Rows 2, 5, 9.
+ * kind SILIENVO_WRITTEN: value is the file's length. The reader gives the same values back. */
 SilienvoAnswer silienvo_p1_write(const uint8_t *connections, size_t connections_length, uint32_t limit, uint8_t *buffer, size_t buffer_length);
 
 /* Routes P1 with these connections exactly as silienvo_route does the file with them. Rows 2, 5, 9 (M bytes of labels); kinds as for silienvo_route. */

@@ -1,7 +1,8 @@
-//! Times the library's entries. The search is timed beside its twins: five times each in turn, the best of each; then the clause lines of a
-//! largest channel, and replies, short and long. What a call does before its first trial (it reads and checks the file; the library and one twin make a
-//! table) is timed by a call with the budget 0 and is not in the time of a trial. `ratio` is to the twin that walks the segments at each trial,
-//! `table-ratio` to the one that looks them up in a table, as the library does.
+//! Times the library's entries. The search is timed beside two routers in safe Rust: the twin, which has the library's algorithm (a table made once a
+//! call), and the plain one that a user would write (it walks the segments at each trial). Five times each in turn, the best of each; then the clause
+//! lines of a largest channel, and replies, short and long. What a call does before its first trial is timed by a call with the budget 0 and is not in
+//! the time of a trial. `ratio` is to the twin, `plain` to the plain one; where a call has too few trials to time them, whole calls are printed and no
+//! ratio.
 
 mod jobs;
 mod twin;
@@ -14,6 +15,9 @@ use std::hint::black_box;
 use std::time::Instant;
 
 const ROUNDS: usize = 5;
+
+/// With fewer trials, the time of the trials is the difference of two times that are nearly equal.
+const TRIALS: u64 = 100;
 
 /// Seconds that one call takes: as many calls as make some 50 ms, or one.
 fn seconds(calls: u32, mut call: impl FnMut()) -> f64 {
@@ -45,18 +49,18 @@ fn twin_words(verdict: twin::Verdict) -> (&'static str, u64) {
     }
 }
 
-/// Seconds of a call under a budget: the library, the twin by a table, and the twin by walking, in turn; the best of each.
+/// Seconds of a call under a budget: the library, the twin and the plain one, in turn; the best of each.
 fn best(job: &Timed, budget: u32) -> [f64; 3] {
     let (mut a, mut b, mut c) = ([0; 64], [0; 64], [0; 64]);
     let mut library = || _ = black_box(silienvo::route(black_box(&job.file), budget, &mut a));
-    let mut tabled = || _ = black_box(twin::tabled(black_box(&job.file), budget, &mut b));
-    let mut walked = || _ = black_box(twin::walked(black_box(&job.file), budget, &mut c));
+    let mut twin = || _ = black_box(twin::twin(black_box(&job.file), budget, &mut b));
+    let mut plain = || _ = black_box(twin::plain(black_box(&job.file), budget, &mut c));
     let n = calls(&mut library);
     let mut best = [f64::MAX; 3];
     for _ in 0..ROUNDS {
         best[0] = best[0].min(seconds(n, &mut library));
-        best[1] = best[1].min(seconds(n, &mut tabled));
-        best[2] = best[2].min(seconds(n, &mut walked));
+        best[1] = best[1].min(seconds(n, &mut twin));
+        best[2] = best[2].min(seconds(n, &mut plain));
     }
     best
 }
@@ -65,8 +69,8 @@ fn best(job: &Timed, budget: u32) -> [f64; 3] {
 fn agree(job: &Timed) {
     let (mut a, mut b, mut c) = ([0; 64], [0; 64], [0; 64]);
     assert_eq!(words(silienvo::route(&job.file, job.budget, &mut a).expect("a job")), job.known, "{}", job.name);
-    assert_eq!(twin_words(twin::tabled(&job.file, job.budget, &mut b).expect("a job")), job.known, "{}", job.name);
-    assert_eq!(twin_words(twin::walked(&job.file, job.budget, &mut c).expect("a job")), job.known, "{}", job.name);
+    assert_eq!(twin_words(twin::twin(&job.file, job.budget, &mut b).expect("a job")), job.known, "{}", job.name);
+    assert_eq!(twin_words(twin::plain(&job.file, job.budget, &mut c).expect("a job")), job.known, "{}", job.name);
     assert_eq!((a, a), (b, c), "{}", job.name);
 }
 
@@ -75,12 +79,19 @@ fn search(job: &Timed) {
     let (word, trials) = job.known;
     let before = best(job, 0);
     let whole = best(job, job.budget);
-    let trial: Vec<f64> = whole.iter().zip(&before).map(|(whole, before)| (whole - before) * 1e9 / trials as f64).collect();
-    println!("{:<20} {word:<10} {trials:>9} trials             library  table twin  walking twin", job.name);
-    println!("{:<20} {:<30} {:>15.2} {:>11.2} {:>13.2}", "", "us before the first trial", before[0] * 1e6, before[1] * 1e6, before[2] * 1e6);
-    println!("{:<20} {:<30} {:>15.2} {:>11.2} {:>13.2}", "", "ns a trial", trial[0], trial[1], trial[2]);
-    println!("{} ratio {:.2}", job.name, trial[0] / trial[2]);
-    println!("{} table-ratio {:.2}", job.name, trial[0] / trial[1]);
+    println!("{:<20} {word:<10} {trials:>9} trials             library        twin         plain", job.name);
+    row("us before the first trial", before.map(|seconds| seconds * 1e6));
+    if trials < TRIALS {
+        return row("us a whole call", whole.map(|seconds| seconds * 1e6));
+    }
+    let trial = [0, 1, 2].map(|i| (whole[i] - before[i]) * 1e9 / trials as f64);
+    row("ns a trial", trial);
+    println!("{} ratio {:.2}", job.name, trial[0] / trial[1]);
+    println!("{} plain {:.2}", job.name, trial[0] / trial[2]);
+}
+
+fn row(what: &str, [library, twin, plain]: [f64; 3]) {
+    println!("{:<20} {what:<30} {library:>15.2} {twin:>11.2} {plain:>13.2}", "");
 }
 
 fn lines(file: &[u8]) {
@@ -121,11 +132,11 @@ fn replies(file: &[u8]) {
 }
 
 fn main() {
+    println!("Lent buffers are lent again as the call before left them: nothing is cleared, inside the time or outside.");
+    println!("A call reads and checks its file, then routes: all three. Best of {ROUNDS}, in turn.");
     println!(
-        "Lent buffers are lent again as the call before left them: nothing is cleared, by the library or by the twins, inside the time or outside."
+        "`ratio`: a trial of the library by one of the twin, the same algorithm in safe Rust; `plain`: by one of a router that walks the segments."
     );
-    println!("A call reads and checks its file, then routes: so the library, and so the twins. Best of {ROUNDS}, in turn.");
-    println!("`ratio`: a trial of the library by one of the twin that walks the segments; `table-ratio`: by one of the twin with a table.");
     for job in jobs::jobs() {
         search(&job);
     }

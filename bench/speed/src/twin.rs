@@ -1,6 +1,6 @@
 //! Reading and routing as the library has them, in safe Rust: the file is checked and never copied; a flat array of marks by value at every
-//! level, and two functions that call each other. The segments that a connection occupies on a track come from a table that is made once a call
-//! (`tabled`), or are walked for at every trial (`walked`).
+//! level, and two functions that call each other. The segments that a connection occupies on a track come from a table that is made once a call, as
+//! the library has it (`twin`), or are walked for at every trial, as one would write it first (`plain`).
 
 #![forbid(unsafe_code)]
 
@@ -81,13 +81,13 @@ enum Found {
 }
 
 /// Routes a job file under a budget, by a table; nothing where the file is refused or the labels are too few.
-pub fn tabled(file: &[u8], budget: u32, labels: &mut [u8]) -> Option<Verdict> {
+pub fn twin(file: &[u8], budget: u32, labels: &mut [u8]) -> Option<Verdict> {
     let job = read(file)?;
     route(&job, &Tabled::of(&job), budget, labels)
 }
 
 /// The same by walking.
-pub fn walked(file: &[u8], budget: u32, labels: &mut [u8]) -> Option<Verdict> {
+pub fn plain(file: &[u8], budget: u32, labels: &mut [u8]) -> Option<Verdict> {
     route(&read(file)?, &Walked, budget, labels)
 }
 

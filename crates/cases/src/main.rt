@@ -18,7 +18,8 @@ fn one(i: usize) {
     let read = io::read_full(file, &mut input);
     libc::close(file);
     let mut text = [0u8; TEXT];
-    let printed = report::report(&input[..read], &mut text);
+    let said = report::report(&input[..read], &mut text);
+    let printed = said.length;
     io::write_all(STDOUT_FILENO, &text[..printed]);
 }
 

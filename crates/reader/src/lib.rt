@@ -14,7 +14,7 @@ pub struct Reader<'a> {
 }
 
 // The reply that stands from a place on, where the variables are 1 to top. Behind the end of the text nothing stands.
-pub fn read_from(text: &[u8], at: usize, top: usize) -> scan::Reading
+fn read_from(text: &[u8], at: usize, top: usize) -> scan::Reading
     requires { ⌜ top ≤ mostVariables ⌝ }
     ensures { λ r. ⌜ Done (drop at (now (text .entry))) top (r .answer) (r .wrong) (r .seen) ⌝ }
 {

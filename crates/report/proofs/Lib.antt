@@ -1,5 +1,4 @@
-pub mod Runs
-pub mod Rows
 pub mod Prints
+pub mod Status
 pub mod Determined
 pub mod Worked

@@ -1,4 +1,4 @@
--- What is printed, from what the router answered; and that it is one text. Assumes nothing.
+-- What is printed, from what the router answered; and that it is one text with one status. Assumes nothing.
 use mathlib.Core.Path.{_≡_, refl, sym, ap, subst, _∙_}
 use mathlib.Core.List.{List}
 use mathlib.Core.Logic.{inl, inr}
@@ -19,9 +19,10 @@ use Rattle.channel.proofs.Budget.{decides-one}
 use Rattle.jobfile.specs.Rows.{fileRows, mOf, jobOf}
 use Rattle.jobfile.specs.Reads.{FileOf, Facts}
 use Rattle.jobfile.proofs.Exact.{job-is, facts-of, facts-pass, job-numbers, file-sound}
+use Rattle.rows.specs.Rows.{rowsText}
 use Rattle.route.specs.declared.Verdict.the-variants.{Routed, Unroutable, Undecided, Refused}
 use Rattle.route.specs.Routes.{routeRows, Routes}
-use Rattle.report.specs.Report.{programBudget, mostInput, routedWord, unroutableWord, undecidedWord, verdictText, refusedText, rowsText, verdictLines, Prints, too-long, refused, decided, Printed}
+use Rattle.report.specs.Report.{programBudget, mostInput, routedWord, unroutableWord, undecidedWord, verdictText, refusedText, verdictLines, refusedStatus, statusOf, Prints, too-long, refused, decided, Printed}
 
 -- the labels begin with the first routing of the job that the file is of
 pub record Found (f labels : List ℕ) (b n : ℕ) : Type 0 where
@@ -62,43 +63,43 @@ module _ (f l l′ : List ℕ) (b : ℕ) where
 
 -- the ways out, one law each
 module _ (f old new : List ℕ) (r : ℕ) (room : r ≤ length new) where
-  pub printed-long : mostInput < length f → Wrote old 0 (refusedText 3 0) new r → Printed f old new r
+  pub printed-long : mostInput < length f → Wrote old 0 (refusedText 3 0) new r → Printed f old new r refusedStatus
   printed-long h w = record { text = refusedText 3 0; prints = too-long h; wrote = w; fits = room }
 
   module _ (h : length f ≤ mostInput) where
-    pub printed-refused : (num place : ℕ) → Refuses (fileRows f) num place → Wrote old 0 (refusedText num place) new r → Printed f old new r
+    pub printed-refused : (num place : ℕ) → Refuses (fileRows f) num place → Wrote old 0 (refusedText num place) new r → Printed f old new r refusedStatus
     printed-refused num place g w = record { text = refusedText num place; prints = refused num place h g; wrote = w; fits = room }
 
-    pub printed-unroutable : (n : ℕ) (l l′ : List ℕ) → Routes f programBudget l (Unroutable n) l′ → Wrote old 0 (verdictText unroutableWord n) new r → Printed f old new r
+    pub printed-unroutable : (n : ℕ) (l l′ : List ℕ) → Routes f programBudget l (Unroutable n) l′ → Wrote old 0 (verdictText unroutableWord n) new r → Printed f old new r (statusOf (none n))
     printed-unroutable n l l′ (p, (j, g, d)) w = record { text = verdictLines j (none n); prints = decided j (none n) h g (d .0); wrote = w; fits = room }
 
-    pub printed-undecided : (n : ℕ) (l l′ : List ℕ) → Routes f programBudget l (Undecided n) l′ → Wrote old 0 (verdictText undecidedWord n) new r → Printed f old new r
+    pub printed-undecided : (n : ℕ) (l l′ : List ℕ) → Routes f programBudget l (Undecided n) l′ → Wrote old 0 (verdictText undecidedWord n) new r → Printed f old new r (statusOf (undecided n))
     printed-undecided n l l′ (p, (j, g, d)) w = record { text = verdictLines j (undecided n); prints = decided j (undecided n) h g (d .0); wrote = w; fits = room }
 
-    pub printed-routed : (n m at : ℕ) (labels mid : List ℕ) → Found f labels programBudget n → m ≡ mOf f → Wrote old 0 (verdictText routedWord n) mid at → Wrote mid at (rowsText (jobOf f) (take m labels) (length (take m labels))) new r → Printed f old new r
+    pub printed-routed : (n m at : ℕ) (labels mid : List ℕ) → Found f labels programBudget n → m ≡ mOf f → Wrote old 0 (verdictText routedWord n) mid at → Wrote mid at (rowsText (jobOf f) (take m labels) (length (take m labels))) new r → Printed f old new r (statusOf (first (take (mOf f) labels) n))
     printed-routed n m at labels mid g e v w =
         let q : List ℕ = take (mOf f) labels in
         let t : rowsText (jobOf f) (take m labels) (length (take m labels)) ≡ rowsText (jobOf f) q (M (jobOf f)) = ap (λ (x : ℕ). rowsText (jobOf f) (take x labels) (length (take x labels))) e ∙ ap (rowsText (jobOf f) q) (g .long) in
         record { text = verdictLines (jobOf f) (first q n); prints = decided (jobOf f) (first q n) h (g .file) (g .decides); wrote = then v (subst (λ (x : List ℕ). Wrote mid at x new r) t w); fits = room }
 
--- any two texts that may be printed are equal
+-- any two texts that may be printed are equal, and so are their statuses
 module _ (f : List ℕ) where
-  pub prints-one : (t u : List ℕ) → Prints f t → Prints f u → t ≡ u
-  prints-one t u (too-long h) (too-long k) = refl
-  prints-one t u (too-long h) (refused num place k r) = absurd (omega arith)
-  prints-one t u (too-long h) (decided j o k g d) = absurd (omega arith)
-  prints-one t u (refused num place h r) (too-long k) = absurd (omega arith)
-  prints-one t u (refused num place h r) (refused num′ place′ k s) = let e = decided-one (file-sound f) r s in λ i. refusedText (e .0 i) (e .1 i)
-  prints-one t u (refused num place h r) (decided j o k g d) = absurd (facts-pass f (facts-of f j g) num place (r .holds))
-  prints-one t u (decided j o h g d) (too-long k) = absurd (omega arith)
-  prints-one t u (decided j o h g d) (refused num place k r) = absurd (facts-pass f (facts-of f j g) num place (r .holds))
-  prints-one t u (decided j o h g d) (decided j′ o′ k g′ d′) =
-      let s : j ≡ j′ = job-is f j g ∙ sym (job-is f j′ g′) in
-      let e : o ≡ o′ = decides-one j programBudget o o′ d (subst (λ (x : Job). Decides x programBudget o′) (sym s) d′) in
-      λ i. verdictLines (s i) (e i)
+  pub prints-one : (t u : List ℕ) (s v : ℕ) → Prints f t s → Prints f u v → (t ≡ u) × (s ≡ v)
+  prints-one t u s v (too-long h) (too-long k) = (refl, refl)
+  prints-one t u s v (too-long h) (refused num place k r) = absurd (omega arith)
+  prints-one t u s v (too-long h) (decided j o k g d) = absurd (omega arith)
+  prints-one t u s v (refused num place h r) (too-long k) = absurd (omega arith)
+  prints-one t u s v (refused num place h r) (refused num′ place′ k w) = let e = decided-one (file-sound f) r w in (λ i. refusedText (e .0 i) (e .1 i), refl)
+  prints-one t u s v (refused num place h r) (decided j o k g d) = absurd (facts-pass f (facts-of f j g) num place (r .holds))
+  prints-one t u s v (decided j o h g d) (too-long k) = absurd (omega arith)
+  prints-one t u s v (decided j o h g d) (refused num place k r) = absurd (facts-pass f (facts-of f j g) num place (r .holds))
+  prints-one t u s v (decided j o h g d) (decided j′ o′ k g′ d′) =
+      let a : j ≡ j′ = job-is f j g ∙ sym (job-is f j′ g′) in
+      let e : o ≡ o′ = decides-one j programBudget o o′ d (subst (λ (x : Job). Decides x programBudget o′) (sym a) d′) in
+      (λ i. verdictLines (a i) (e i), ap statusOf e)
 
-  pub printed-one : (old new new′ : List ℕ) (r r′ : ℕ) → Printed f old new r → Printed f old new′ r′ → (r ≡ r′) × (new ≡ new′)
-  printed-one old new new′ r r′ p q =
-      let e = prints-one (p .text) (q .text) (p .prints) (q .prints) in
-      let w = subst (λ (t : List ℕ). Wrote old 0 t new r) e (p .wrote) in
-      (w .next ∙ sym (q .wrote .next), w .is ∙ sym (q .wrote .is))
+  pub printed-one : (old new new′ : List ℕ) (r r′ s s′ : ℕ) → Printed f old new r s → Printed f old new′ r′ s′ → (r ≡ r′) × (s ≡ s′) × (new ≡ new′)
+  printed-one old new new′ r r′ s s′ p q =
+      let e = prints-one (p .text) (q .text) s s′ (p .prints) (q .prints) in
+      let w = subst (λ (t : List ℕ). Wrote old 0 t new r) (e .0) (p .wrote) in
+      (w .next ∙ sym (q .wrote .next), e .1, w .is ∙ sym (q .wrote .is))

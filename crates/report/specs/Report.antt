@@ -1,14 +1,15 @@
--- Document 01, "Numbers to hold against it": what the routing program prints for an input. Assumes nothing: these are definitions.
+-- Document 01, "Numbers to hold against it": what the routing program prints for an input, and the status that it ends with. Assumes nothing: these are definitions.
 use mathlib.Core.List.{List, [], _∷_, _++_}
-use Prim.Native.Nat.{ℕ, zero, suc, _+_, _-_, _≤_, _<_}
-use lib.ListN.{length, getD}
+use Prim.Native.Nat.{ℕ, _≤_, _<_}
+use lib.ListN.{length}
 use Rattle.text.specs.Text.{Wrote, digits}
 use Rattle.refusals.specs.Table.{Refuses}
 use Rattle.search.specs.Budget.{Outcome, first, none, undecided}
-use Rattle.channel.specs.Channel.{Job, M, occupiedBy, trackAt, connectionAt}
+use Rattle.channel.specs.Channel.{Job, M}
 use Rattle.channel.specs.Verdict.{Decides}
 use Rattle.jobfile.specs.Rows.{fileRows}
 use Rattle.jobfile.specs.Reads.{FileOf}
+use Rattle.rows.specs.Rows.{small, blank, lf, rowsText}
 
 -- the program's budget, and the longest input it reads
 abbrev pub programBudget : ℕ
@@ -17,19 +18,9 @@ programBudget = 1000000
 abbrev pub mostInput : ℕ
 mostInput = 4096
 
--- a number, and the same of at most three digits
+-- a number
 abbrev pub number : ℕ → List ℕ
 number n = digits 19 n
-
-abbrev pub small : ℕ → List ℕ
-small n = digits 2 n
-
--- a blank, and LF
-abbrev pub blank : List ℕ
-blank = 32 ∷ []
-
-abbrev pub lf : List ℕ
-lf = 10 ∷ []
 
 -- `routed `, `unroutable `, `undecided `, `refused `
 abbrev pub routedWord : List ℕ
@@ -52,46 +43,35 @@ verdictText word n = word ++ number n ++ lf
 unfoldable pub refusedText : ℕ → ℕ → List ℕ
 refusedText num place = refusedWord ++ small num ++ blank ++ number place ++ lf
 
--- connection, track, first and last occupied segment
-unfoldable pub rowText : ℕ → ℕ → ℕ → ℕ → List ℕ
-rowText i l a e = small i ++ blank ++ small l ++ blank ++ small a ++ blank ++ small e ++ lf
-
--- the first and the last of a list
-abbrev pub firstOf : List ℕ → ℕ
-firstOf ks = getD ks 0 0
-
-abbrev pub lastOf : List ℕ → ℕ
-lastOf ks = getD ks (length ks - 1) 0
-
--- the lines of the first n connections on the tracks q
-unfoldable pub rowsText : Job → List ℕ → ℕ → List ℕ
-rowsText j q zero = []
-rowsText j q (suc n) =
-    rowsText j q n
-    ++ (let ks = occupiedBy (trackAt (j .tracks) (getD q n 0)) (connectionAt (j .connections) n) in rowText (n + 1) (getD q n 0) (firstOf ks) (lastOf ks))
-
 -- the lines of a verdict on a job: the verdict and its trials, and if routed a line for each connection
 abbrev pub verdictLines : Job → Outcome → List ℕ
 verdictLines j (first q n) = verdictText routedWord n ++ rowsText j q (M j)
 verdictLines j (none n) = verdictText unroutableWord n
 verdictLines j (undecided n) = verdictText undecidedWord n
 
--- what is printed for the input f. Over the longest it is refused as 3, place 0; else as the file's rows say; else it is the verdict on its job under the program's budget
-pub data Prints (f : List ℕ) : List ℕ → Type 0 where
-  too-long : mostInput < length f → Prints f (refusedText 3 0)
-  refused : (num place : ℕ) → length f ≤ mostInput → Refuses (fileRows f) num place → Prints f (refusedText num place)
-  decided : (j : Job) (o : Outcome) → length f ≤ mostInput → FileOf f j → Decides j programBudget o → Prints f (verdictLines j o)
+-- the status that a refusal ends with
+abbrev pub refusedStatus : ℕ
+refusedStatus = 3
 
--- the text stands at the front of the lent buffer, r bytes of it, and the rest of the buffer stays
-pub record Printed (f old new : List ℕ) (r : ℕ) : Type 0 where
+-- the status that an outcome ends with: 0 routed, 1 unroutable, 2 undecided
+abbrev pub statusOf : Outcome → ℕ
+statusOf (first q n) = 0
+statusOf (none n) = 1
+statusOf (undecided n) = 2
+
+-- what is printed for the input f, and the status. Over the longest it is refused as 3, place 0; else as the file's rows say; else it is the verdict on its job under the program's budget
+pub data Prints (f : List ℕ) : List ℕ → ℕ → Type 0 where
+  too-long : mostInput < length f → Prints f (refusedText 3 0) refusedStatus
+  refused : (num place : ℕ) → length f ≤ mostInput → Refuses (fileRows f) num place → Prints f (refusedText num place) refusedStatus
+  decided : (j : Job) (o : Outcome) → length f ≤ mostInput → FileOf f j → Decides j programBudget o → Prints f (verdictLines j o) (statusOf o)
+
+-- the text stands at the front of the lent buffer, r bytes of it, and the rest of the buffer stays; the status is s
+pub record Printed (f old new : List ℕ) (r s : ℕ) : Type 0 where
   pub text : List ℕ
-  pub prints : Prints f text
+  pub prints : Prints f text s
   pub wrote : Wrote old 0 text new r
   pub fits : r ≤ length new
 
--- what is asked of the buffer for a first line, and for a connection's line
+-- what is asked of the buffer for a first line
 abbrev pub firstRoom : ℕ
 firstRoom = 40
-
-abbrev pub rowRoom : ℕ
-rowRoom = 16

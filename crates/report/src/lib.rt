@@ -1,34 +1,44 @@
-// What the routing program prints, made in a lent buffer; the program itself only reads and writes.
+// What the routing program says: the text that it prints, made in a lent buffer, and the status that it ends with. The program itself only reads and
+// writes.
 // Document 01, "Numbers to hold against it": the program's lines. specs/Report.antt has them.
-use channel::Label;
 use channel::MOST_CONNECTIONS;
 use jobfile::TRAILER;
 use route::Verdict;
+use rows::ROW;
+use rows::SMALL;
 use text::wide;
-ghost use Prim.Native.Nat.{_+_, _*_, _≤_};
+ghost use Prim.Native.Nat.{_+_, _≤_};
 ghost use lib.ListN.{length};
 ghost use Rattle.text.specs.Text.{Wrote};
-ghost use Rattle.channel.specs.Routing.{Routing};
-ghost use Rattle.jobfile.specs.Rows.{jobOf};
-ghost use Rattle.jobfile.specs.Reads.{Facts};
-ghost use Rattle.report.specs.Report.{firstRoom, rowRoom, verdictText, refusedText, rowText, rowsText, Printed};
+ghost use Rattle.report.specs.Report.{firstRoom, verdictText, refusedText, Printed};
 
 // The program's budget, and the longest input that it reads.
 pub const BUDGET: u32 = 1000000;
 
 pub const MOST_INPUT: usize = 4096;
 
-// How many digits a number has at most, less one: any number, and one below 1,000.
+// The statuses that the program ends with: a routing is found, there is none, the budget does not tell, and the input is refused.
+pub const ROUTED: u8 = 0;
+
+pub const UNROUTABLE: u8 = 1;
+
+pub const UNDECIDED: u8 = 2;
+
+pub const REFUSED: u8 = 3;
+
+// How many digits a number has at most, less one.
 const NUMBER: u8 = 19;
 
-const SMALL: u8 = 2;
-
-// Room for a first line, for a connection's line, and for the whole text.
+// Room for a first line, and for the whole text.
 const FIRST_LINE: usize = 40;
 
-const ROW: usize = 16;
-
 pub const TEXT: usize = FIRST_LINE + MOST_CONNECTIONS * ROW;
+
+// What the program says: the length of its text, and the status that it ends with.
+pub struct Said {
+    pub length: usize,
+    pub status: u8,
+}
 
 // A verdict and its trials, at the front.
 fn put_verdict(buf: &mut [u8], word: &[u8], n: usize) -> usize
@@ -54,60 +64,40 @@ fn put_refusal(buf: &mut [u8], number: u8, place: usize) -> usize
     text::put(buf, at, b'\n')
 }
 
-// A connection's line: connection, track, first and last occupied segment.
-fn put_row(buf: &mut [u8], at: usize, i: usize, label: usize, first: usize, last: usize) -> usize
-    requires { ⌜ at + rowRoom ≤ length (now buf) ⌝ }
-    ensures { λ r. ⌜ Wrote (now (buf .entry)) at (rowText i label first last) (now (buf .exit)) r ⌝ }
-    ensures { λ r. ⌜ r ≤ at + rowRoom ⌝ }
-{
-    let mut to = text::put_digits(buf, at, i, SMALL);
-    to = text::put(buf, to, b' ');
-    to = text::put_digits(buf, to, label, SMALL);
-    to = text::put(buf, to, b' ');
-    to = text::put_digits(buf, to, first, SMALL);
-    to = text::put(buf, to, b' ');
-    to = text::put_digits(buf, to, last, SMALL);
-    text::put(buf, to, b'\n')
-}
-
-// The lines of the connections on the tracks of a routing, in order. A table's segments are counted from 0, a line's from 1.
-fn put_rows(buf: &mut [u8], at: usize, file: &[u8], labels: &[u8]) -> usize
-    requires { ⌜ Facts (now file) × Routing (jobOf (now file)) (now labels) × (at + length (now labels) * rowRoom ≤ length (now buf)) ⌝ }
-    ensures { λ r. ⌜ Wrote (now (buf .entry)) at (rowsText (jobOf (now (file .entry))) (now (labels .entry)) (length (now (labels .entry)))) (now (buf .exit)) r ⌝ }
-    ensures { λ r. ⌜ r ≤ at + length (now (labels .entry)) * rowRoom ⌝ }
-{
-    let runs = occupancy::table(file);
-    let mut to = at;
-    let mut i = 0;
-    while i < labels.len() {
-        let code = channel::code_of(Label(labels[i]));
-        let first = occupancy::first_in(&runs, i, code);
-        let last = occupancy::last_in(&runs, i, code);
-        to = put_row(buf, to, i + 1, wide(labels[i]), first + 1, last + 1);
-        i += 1;
-    }
-    to
-}
-
-// What the program prints for this input, at the front of the text; its length is returned, and the rest stays.
-pub fn report(input: &[u8], text: &mut [u8; TEXT]) -> usize
-    ensures { λ r. ⌜ Printed (now (input .entry)) (now (text .entry)) (now (text .exit)) r ⌝ }
+// What the program says of this input. The text is at the front of the buffer, and the rest stays.
+pub fn report(input: &[u8], text: &mut [u8; TEXT]) -> Said
+    ensures { λ r. ⌜ Printed (now (input .entry)) (now (text .entry)) (now (text .exit)) (r .length) (r .status) ⌝ }
 {
     if MOST_INPUT < input.len() {
-        return put_refusal(text, 3, 0);
+        return Said {
+            length: put_refusal(text, 3, 0),
+            status: REFUSED,
+        };
     }
     let mut labels = [0u8; MOST_CONNECTIONS];
     match route::route(input, BUDGET, &mut labels) {
         Verdict::Routed(n) => {
             let m = wide(input[input.len() - TRAILER + 6]);
             let at = put_verdict(text, b"routed ", n as usize);
-            put_rows(text, at, input, &labels[..m])
+            Said {
+                length: rows::put_rows(text, at, input, &labels[..m]),
+                status: ROUTED,
+            }
         }
-        Verdict::Unroutable(n) => put_verdict(text, b"unroutable ", n as usize),
-        Verdict::Undecided(n) => put_verdict(text, b"undecided ", n as usize),
+        Verdict::Unroutable(n) => Said {
+            length: put_verdict(text, b"unroutable ", n as usize),
+            status: UNROUTABLE,
+        },
+        Verdict::Undecided(n) => Said {
+            length: put_verdict(text, b"undecided ", n as usize),
+            status: UNDECIDED,
+        },
         Verdict::Refused {
             number: n,
             place: p,
-        } => put_refusal(text, n, p),
+        } => Said {
+            length: put_refusal(text, n, p),
+            status: REFUSED,
+        },
     }
 }

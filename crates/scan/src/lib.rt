@@ -41,7 +41,7 @@ pub enum Mode {
 }
 
 // The first byte of a line.
-pub fn start(b: u8) -> Mode
+fn start(b: u8) -> Mode
     ensures { λ r. ⌜ r ≡ startOf b ⌝ }
 {
     match b {
@@ -53,7 +53,7 @@ pub fn start(b: u8) -> Mode
 }
 
 // A blank leads to m, and nothing else to anything.
-pub fn only_blank(b: u8, m: Mode) -> Mode
+fn only_blank(b: u8, m: Mode) -> Mode
     ensures { λ r. ⌜ r ≡ onlyBlank b m ⌝ }
 {
     match b {
@@ -63,7 +63,7 @@ pub fn only_blank(b: u8, m: Mode) -> Mode
 }
 
 // The first byte of a literal.
-pub fn gap(b: u8) -> Mode
+fn gap(b: u8) -> Mode
     ensures { λ r. ⌜ r ≡ gapOf b ⌝ }
 {
     match b {
@@ -75,7 +75,7 @@ pub fn gap(b: u8) -> Mode
 }
 
 // After a minus.
-pub fn minus(b: u8) -> Mode
+fn minus(b: u8) -> Mode
     ensures { λ r. ⌜ r ≡ minusOf b ⌝ }
 {
     match b {
@@ -85,7 +85,7 @@ pub fn minus(b: u8) -> Mode
 }
 
 // After the first digit: a blank, or a second.
-pub fn second(negated: bool, a: u8, b: u8) -> Mode
+fn second(negated: bool, a: u8, b: u8) -> Mode
     ensures { λ r. ⌜ r ≡ secondOf negated a b ⌝ }
 {
     match b {
@@ -96,7 +96,7 @@ pub fn second(negated: bool, a: u8, b: u8) -> Mode
 }
 
 // After the second digit: a blank, or a third.
-pub fn third(negated: bool, a: u8, d: u8, b: u8) -> Mode
+fn third(negated: bool, a: u8, d: u8, b: u8) -> Mode
     ensures { λ r. ⌜ r ≡ thirdOf negated a d b ⌝ }
 {
     match b {
@@ -107,7 +107,7 @@ pub fn third(negated: bool, a: u8, d: u8, b: u8) -> Mode
 }
 
 // One byte on; next is the place after it.
-pub fn step(m: Mode, b: u8, next: usize) -> Mode
+fn step(m: Mode, b: u8, next: usize) -> Mode
     ensures { λ r. ⌜ r ≡ stepOf m b next ⌝ }
 {
     match m {
@@ -135,7 +135,7 @@ pub enum Lit {
 }
 
 // The literal that ends where a word ends, if one does.
-pub fn literal(m: Mode) -> Lit
+fn literal(m: Mode) -> Lit
     ensures { λ r. ⌜ r ≡ litOf m ⌝ }
 {
     match m {
@@ -159,7 +159,7 @@ pub fn literal(m: Mode) -> Lit
 }
 
 // The literal that ends at the byte b, if one does.
-pub fn event(m: Mode, b: u8) -> Lit
+fn event(m: Mode, b: u8) -> Lit
     ensures { λ r. ⌜ r ≡ eventOf m b ⌝ }
 {
     if b == 10 {
@@ -172,7 +172,7 @@ pub fn event(m: Mode, b: u8) -> Lit
 }
 
 // The status that a word is: 1 to 3, or 0.
-pub fn status(w: &[u8]) -> u8
+fn status(w: &[u8]) -> u8
     ensures { λ r. ⌜ r ≡ codeOf (statusWord (now (w .entry))) ⌝ }
 {
     if check::same(w, b"SATISFIABLE") {
@@ -188,7 +188,7 @@ pub fn status(w: &[u8]) -> u8
 }
 
 // What a line comes to that ends at the place i: 0 for not well-formed, 1 to 3 for an `s` line with that status, 4 for any other.
-pub fn ended(text: &[u8], m: Mode, i: usize) -> u8
+fn ended(text: &[u8], m: Mode, i: usize) -> u8
     requires { ⌜ (i ≤ length (now text)) × Inside m i ⌝ }
     ensures { λ r. ⌜ r ≡ endOf (now (text .entry)) m i ⌝ }
 {
@@ -210,7 +210,7 @@ pub fn ended(text: &[u8], m: Mode, i: usize) -> u8
 }
 
 // The `s` lines after a line of this code: 0 for none, 1 to 3 for the one, 4 for several.
-pub fn said_after(said: u8, code: u8) -> u8
+fn said_after(said: u8, code: u8) -> u8
     ensures { λ r. ⌜ r ≡ saidOf said code ⌝ }
 {
     if code == 4 {
@@ -223,7 +223,7 @@ pub fn said_after(said: u8, code: u8) -> u8
 }
 
 // How many literals stand before the first `0`, after one more; shut is as below.
-pub fn count_after(count: usize, shut: u8, l: Lit) -> usize
+fn count_after(count: usize, shut: u8, l: Lit) -> usize
     requires { ⌜ count < lastNumber ⌝ }
     ensures { λ r. ⌜ r ≡ countOf count shut l ⌝ }
 {
@@ -235,7 +235,7 @@ pub fn count_after(count: usize, shut: u8, l: Lit) -> usize
 }
 
 // 0 for no `0` yet, 1 for a `0` that is the last literal, 2 for more after it.
-pub fn shut_after(shut: u8, l: Lit) -> u8
+fn shut_after(shut: u8, l: Lit) -> u8
     ensures { λ r. ⌜ r ≡ shutOf shut l ⌝ }
 {
     match l {
@@ -254,7 +254,7 @@ pub enum Answer {
 }
 
 // The answer at the end: what the last line came to and its number, the `s` lines, the count of literals, and whether a `0` closed them.
-pub fn told(code: u8, line: usize, said: u8, count: usize, shut: u8) -> Answer
+fn told(code: u8, line: usize, said: u8, count: usize, shut: u8) -> Answer
     ensures { λ r. ⌜ r ≡ toldOf code line said (record { count = count; shut = shut }) ⌝ }
 {
     if code == 0 {
@@ -289,15 +289,7 @@ pub fn told(code: u8, line: usize, said: u8, count: usize, shut: u8) -> Answer
 }
 
 // The text ends at the place i, and with it its last line.
-pub fn at_end(
-    text: &[u8],
-    m: Mode,
-    i: usize,
-    line: usize,
-    said: u8,
-    count: usize,
-    shut: u8,
-) -> Answer
+fn at_end(text: &[u8], m: Mode, i: usize, line: usize, said: u8, count: usize, shut: u8) -> Answer
     requires { ⌜ (i ≤ length (now text)) × Inside m i × (count < lastNumber) ⌝ }
     ensures { λ r. ⌜ r ≡ atEnd (now (text .entry)) m i line said (record { count = count; shut = shut }) ⌝ }
 {
@@ -315,7 +307,7 @@ pub fn at_end(
 
 // The literal at a position, negated or not, of the variable v, where the variables are 1 to top. wrong is the first position that
 // was too large or seen before, or 0, and is returned anew; seen has at v 0 for not seen, 1 for plain, 2 for negated.
-pub fn mark(
+fn mark(
     seen: &mut [u8; MARKS],
     wrong: usize,
     position: usize,
@@ -344,7 +336,7 @@ pub fn mark(
 }
 
 // A literal that ended, after count others and with shut as above.
-pub fn mark_literal(
+fn mark_literal(
     seen: &mut [u8; MARKS],
     wrong: usize,
     count: usize,

@@ -72,7 +72,7 @@ array-share-prefix-text : tie.Need-array-share-prefix-text
 array-share-prefix-text c = search needs
 
 slice-aggregate-write-all-3 : tie.Need-slice-aggregate-write-all-3
-slice-aggregate-write-all-3 c = let r = c .before .report in sym (length-take-le (r .result) (r .last .1 .0) (r .ensures .fits))
+slice-aggregate-write-all-3 c = let r = c .before .report in sym (length-take-le (r .result .length) (r .last .1 .0) (r .ensures .fits))
 
 write-all-requires-3 : tie.Need-write-all-requires-3
 write-all-requires-3 c κs = search needs

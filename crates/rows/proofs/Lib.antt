@@ -1,0 +1,5 @@
+pub mod Runs
+pub mod Going
+pub mod Laws
+pub mod Determined
+pub mod Worked

@@ -1,0 +1,123 @@
+-- The numbers of the exports: document 01's number and values for each answer, as C reads them. Assumes nothing: these are definitions.
+use mathlib.Core.Path.{_≡_}
+use mathlib.Core.List.{List}
+use Prim.Native.Nat.{ℕ, _+_, _*_, _-_, _≤_}
+use lib.ListN.{length}
+use Rattle.jobfile.specs.declared.Read.{Read}
+use Rattle.jobfile.specs.declared.Read.the-variants as read
+use Rattle.jobfile.specs.Reads.{Reads}
+use Rattle.route.specs.declared.Verdict.{Verdict}
+use Rattle.route.specs.declared.Verdict.the-variants as verdict
+use Rattle.route.specs.Routes.{Routes}
+use Rattle.judge.specs.declared.Judgement.{Judgement}
+use Rattle.judge.specs.declared.Judgement.the-variants as judgement
+use Rattle.judge.specs.Judges.{Judges}
+use Rattle.rows.specs.declared.Answer.{Answer as RowsAnswer}
+use Rattle.rows.specs.declared.Answer.the-variants as rows
+use Rattle.rows.specs.Lines.{Lines}
+use Rattle.lines.specs.declared.Answer.{Answer as LineAnswer}
+use Rattle.lines.specs.declared.Answer.the-variants as line
+use Rattle.lines.specs.Writes.{Writes as WritesLine}
+use Rattle.reply.specs.declared.Answer.{Answer as ReplyAnswer}
+use Rattle.reply.specs.declared.Answer.the-variants as reply
+use Rattle.reply.specs.Replies.{Replies}
+use Rattle.part.specs.declared.Written.{Written}
+use Rattle.part.specs.declared.Written.the-variants as written
+use Rattle.part.specs.P1.{p1}
+use Rattle.part.specs.Writes.{Writes}
+use Rattle.editor.specs.declared.Connection.{Connection as Record}
+use Rattle.editor.specs.Edits.{Edits}
+use Rattle.silienvo.specs.declared.SilienvoAnswer.{SilienvoAnswer}
+use Rattle.silienvo.specs.declared.SilienvoJob.{SilienvoJob}
+
+-- a refusal; another kind of answer, with its value
+abbrev pub refusal : ℕ → ℕ → SilienvoAnswer
+refusal num place = record { kind = 0; number = num; value = place }
+
+abbrev pub given : ℕ → ℕ → SilienvoAnswer
+given kind value = record { kind = kind; number = 0; value = value }
+
+-- the reader's answers, for a file of n bytes: the connections are the 3 × M bytes before the trailer
+abbrev pub jobGiven : ℕ → Read → SilienvoJob
+jobGiven n (read.Job c t m k) = record { kind = 1; number = 0; place = 0; columns = c; tracks = t; connections = m; limit = k; start = n - 8 - 3 * m; length = 3 * m }
+jobGiven n (read.Refused num place) = record { kind = 0; number = num; place = place; columns = 0; tracks = 0; connections = 0; limit = 0; start = 0; length = 0 }
+
+-- a job's connections stand before the trailer
+abbrev pub ReadFits : ℕ → Read → Type 0
+ReadFits n (read.Job c t m k) = 3 * m + 8 ≤ n
+ReadFits n (read.Refused num place) = Unit
+
+-- the router's: 1 Routed, 2 Unroutable, 3 Undecided, with the reported trials
+abbrev pub verdictGiven : Verdict → SilienvoAnswer
+verdictGiven (verdict.Routed n) = given 1 n
+verdictGiven (verdict.Unroutable n) = given 2 n
+verdictGiven (verdict.Undecided n) = given 3 n
+verdictGiven (verdict.Refused num place) = refusal num place
+
+-- the judge's: 1 Legal
+abbrev pub judgementGiven : Judgement → SilienvoAnswer
+judgementGiven judgement.Legal = given 1 0
+judgementGiven (judgement.Refused num place) = refusal num place
+
+-- those for the lines of a brought routing: 1 the lines, with the text's length
+abbrev pub rowsGiven : RowsAnswer → SilienvoAnswer
+rowsGiven (rows.Text n) = given 1 n
+rowsGiven (rows.Refused num place) = refusal num place
+
+-- the line writer's: 1 a line, with its length
+abbrev pub lineGiven : LineAnswer → SilienvoAnswer
+lineGiven (line.Line n) = given 1 n
+lineGiven (line.Refused num place) = refusal num place
+
+-- the reply reader's: 1 Accepted, 2 Claimed, 3 Unknown
+abbrev pub replyGiven : ReplyAnswer → SilienvoAnswer
+replyGiven reply.Accepted = given 1 0
+replyGiven reply.Claimed = given 2 0
+replyGiven reply.Unknown = given 3 0
+replyGiven (reply.Refused num place) = refusal num place
+
+-- P1's writer's: 1 a file, with its length
+abbrev pub writtenGiven : Written → SilienvoAnswer
+writtenGiven (written.File n) = given 1 n
+writtenGiven (written.Refused num place) = refusal num place
+
+-- each export says what the function that it wraps says
+pub record ReadSays (f : List ℕ) (r : SilienvoJob) : Type 0 where
+  pub answer : Read
+  pub says : Reads f answer
+  pub is : r ≡ jobGiven (length f) answer
+
+pub record RouteSays (f : List ℕ) (b : ℕ) (l : List ℕ) (r : SilienvoAnswer) (l′ : List ℕ) : Type 0 where
+  pub answer : Verdict
+  pub says : Routes f b l answer l′
+  pub is : r ≡ verdictGiven answer
+
+pub record JudgeSays (f q : List ℕ) (r : SilienvoAnswer) : Type 0 where
+  pub answer : Judgement
+  pub says : Judges f q answer
+  pub is : r ≡ judgementGiven answer
+
+pub record RowsSays (f q old : List ℕ) (r : SilienvoAnswer) (new : List ℕ) : Type 0 where
+  pub answer : RowsAnswer
+  pub says : Lines f q old answer new
+  pub is : r ≡ rowsGiven answer
+
+pub record LineSays (f : List ℕ) (n : ℕ) (old : List ℕ) (r : SilienvoAnswer) (new : List ℕ) : Type 0 where
+  pub answer : LineAnswer
+  pub says : WritesLine f n old answer new
+  pub is : r ≡ lineGiven answer
+
+pub record ReplySays (f t l : List ℕ) (r : SilienvoAnswer) (l′ : List ℕ) : Type 0 where
+  pub answer : ReplyAnswer
+  pub says : Replies f t l answer l′
+  pub is : r ≡ replyGiven answer
+
+pub record PartSays (bytes : List ℕ) (k : ℕ) (old : List ℕ) (r : SilienvoAnswer) (new : List ℕ) : Type 0 where
+  pub answer : Written
+  pub says : Writes p1 bytes k old answer new
+  pub is : r ≡ writtenGiven answer
+
+pub record EditSays (cs : List Record) (k b : ℕ) (old : List ℕ) (r : SilienvoAnswer) (new : List ℕ) : Type 0 where
+  pub answer : Verdict
+  pub says : Edits cs k b old answer new
+  pub is : r ≡ verdictGiven answer

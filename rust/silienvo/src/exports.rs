@@ -1,0 +1,50 @@
+//! The exports as include/silienvo.h declares them.
+
+/// `kind` 0: refused, by `number` at place `value`. Otherwise the entry's own list, and `value` is its trials or its length.
+#[repr(C)]
+pub struct SilienvoAnswer {
+    pub kind: u32,
+    pub number: u32,
+    pub value: u64,
+}
+
+/// `kind` 0: refused, by `number` at `place`. 1: a job.
+#[repr(C)]
+pub struct SilienvoJob {
+    pub kind: u32,
+    pub number: u32,
+    pub place: u64,
+    pub columns: u32,
+    pub tracks: u32,
+    pub connections: u32,
+    pub limit: u32,
+    pub start: u64,
+    pub length: u64,
+}
+
+/// A connection as the editor has it.
+#[repr(C)]
+#[derive(Clone, Copy, Debug, PartialEq, Eq)]
+pub struct SilienvoConnection {
+    pub left: u8,
+    pub right: u8,
+    pub mark: u8,
+}
+
+extern "C" {
+    pub fn silienvo_read(file: *const u8, file_len: usize) -> SilienvoJob;
+    pub fn silienvo_route(file: *const u8, file_len: usize, budget: u32, labels: *mut u8, labels_len: usize) -> SilienvoAnswer;
+    pub fn silienvo_judge(file: *const u8, file_len: usize, labels: *const u8, labels_len: usize) -> SilienvoAnswer;
+    pub fn silienvo_rows(file: *const u8, file_len: usize, labels: *const u8, labels_len: usize, text: *mut u8, text_len: usize) -> SilienvoAnswer;
+    pub fn silienvo_line(file: *const u8, file_len: usize, number: u64, buffer: *mut u8, buffer_len: usize) -> SilienvoAnswer;
+    pub fn silienvo_reply(file: *const u8, file_len: usize, text: *const u8, text_len: usize, labels: *mut u8, labels_len: usize) -> SilienvoAnswer;
+    pub fn silienvo_p1_write(connections: *const u8, connections_len: usize, limit: u32, buffer: *mut u8, buffer_len: usize) -> SilienvoAnswer;
+    pub fn silienvo_p1_route(
+        connections: *const SilienvoConnection,
+        count: usize,
+        limit: u32,
+        budget: u32,
+        labels: *mut u8,
+        labels_len: usize,
+    ) -> SilienvoAnswer;
+}
