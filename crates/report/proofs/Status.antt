@@ -29,10 +29,10 @@ module _ (f : List ℕ) where
 
   -- and those lines are, byte for byte, what `rows` writes for that routing to a buffer with room for them
   pub nought-lines : (t : List ℕ) (s : ℕ) → s ≡ 0 → Prints f t s
-      → (j : Job) × (q : List ℕ) × (n : ℕ) × FileOf f j × FirstRouting j q × ((old new : List ℕ) (a : Answer) → M j * rowRoom ≤ length old → Lines f q old a new → (k : ℕ) × (a ≡ Text k) × (t ≡ verdictText routedWord n ++ take k new))
+      → (j : Job) × (q : List ℕ) × (n : ℕ) × FileOf f j × FirstRouting j q × (n ≡ trialsUpTo j q) × ((old new : List ℕ) (a : Answer) → M j * rowRoom ≤ length old → Lines f q old a new → (k : ℕ) × (a ≡ Text k) × (t ≡ verdictText routedWord n ++ take k new))
   nought-lines t s e p =
       let (j, q, n, g, r, m, l) = nought-routed t s e p in
-      (j, q, n, g, r, λ old new a h w. let x = text-is f q old j g (r .routing) h a new w in (length (rowsText j q (M j)), x .0, l ∙ ap (λ (u : List ℕ). verdictText routedWord n ++ u) (sym (ap (take (length (rowsText j q (M j)))) (x .1) ∙ take-at (rowsText j q (M j)) _ _ refl))))
+      (j, q, n, g, r, m, λ old new a h w. let x = text-is f q old j g (r .routing) h a new w in (length (rowsText j q (M j)), x .0, l ∙ ap (λ (u : List ℕ). verdictText routedWord n ++ u) (sym (ap (take (length (rowsText j q (M j)))) (x .1) ∙ take-at (rowsText j q (M j)) _ _ refl))))
 
   -- and where the budget is enough to find a routing the status is 0
   pub routed-nought : (t : List ℕ) (s : ℕ) (j : Job) (q : List ℕ) (n : ℕ) → length f ≤ mostInput → FileOf f j → Decides j programBudget (first q n) → Prints f t s → s ≡ 0
