@@ -123,13 +123,12 @@ fn not_taken(shell: &Shell, checks: &mut Checks, line: &str) -> io::Result<()> {
         (format!("set -o pipefail; {line} > /dev/full"), "on a full device"),
         (format!("set -o pipefail; {line} >&-"), "with the output closed"),
         (format!("set -o pipefail; {{ {line}; }} 3>&1 >&- | cat"), "with the output closed and another open"),
-        (format!("{{ sleep 0.2; {line}; echo \"ended $?\" >&2; }} | true"), "into a pipe that nobody reads"),
+        (format!("mkfifo cut && exec 4<>cut 5>cut 4<&- && rm cut && set -o pipefail && {line} >&5"), "into a pipe that nobody reads"),
         (format!("set -o pipefail; ulimit -f 0; {line} > limited"), "past the limit of a file's size"),
     ] {
         let ended = shell.line(&to)?;
-        let status = if to.ends_with("| true") { ended.err.lines().last() == Some("ended 4") } else { ended.status == Some(4) };
         let said = ended.err.contains("could not be written whole") || ended.err.contains("is closed");
-        checks.check(status && said && !ended.err.contains("panicked"), &format!("{line}, {how}: status 4"), || ended.shown());
+        checks.check(ended.status == Some(4) && said && !ended.err.contains("panicked"), &format!("{line}, {how}: status 4"), || ended.shown());
     }
     Ok(())
 }
