@@ -44,15 +44,20 @@ fn help() -> String {
     text
 }
 
-fn asks_help(word: &OsString) -> bool {
-    word == "help" || word == "--help" || word == "-h"
+/// Whether these words ask for help: `help`, or `--help` alone or alone behind a command. Among other words `--help` may be the name of a file.
+fn ask_help(words: &[OsString]) -> bool {
+    match words {
+        [first, ..] if first == "help" => true,
+        [word] | [_, word] => word == "--help" || word == "-h",
+        _ => false,
+    }
 }
 
 /// The answer to the words of a command line, written whole, or a failure.
 fn answer(words: &[OsString]) -> Result<Status, Failure> {
     let mut out = Output::standard()?;
     let Some((name, rest)) = words.split_first() else { return Err(Failure::new("a command is missing; `silienvo help` lists them")) };
-    let status = if asks_help(name) || rest.iter().any(|word| word == "--help" || word == "-h") {
+    let status = if ask_help(words) {
         out.write(help().as_bytes())?;
         Status::Good
     } else if let Some(command) = COMMANDS.iter().find(|command| name == command.name) {

@@ -34,7 +34,7 @@ pub fn routed(file: &[u8], budget: u32) -> Result<(Verdict, Option<Vec<u8>>), Re
     Ok((verdict, lines))
 }
 
-/// The lines of a routing at the front of a buffer.
+/// The lines of a routing whose labels stand at the front of a buffer.
 fn lines(file: &[u8], labels: &[u8]) -> Result<Vec<u8>, Refusal> {
     let count = silienvo::read(file)?.connections as usize;
     view::lines(file, &labels[..count])

@@ -8,7 +8,7 @@ use std::io;
 const A: &str = "routed 4\n1 1 1 1\n2 2 2 2\n3 1 2 2\n";
 
 /// A line, its status, and all of its standard output.
-const LINES: [(&str, i32, &str); 74] = [
+const LINES: [(&str, i32, &str); 76] = [
     ("./route < examples/a.job", 0, A),
     ("./route < examples/b.job", 1, "unroutable 10\n"),
     ("./route < undecided.job", 2, "undecided 1000000\n"),
@@ -34,6 +34,8 @@ const LINES: [(&str, i32, &str); 74] = [
     ("./silienvo route --budget examples/a.job", 4, ""),
     ("./silienvo route --budget 4294967296 examples/a.job", 4, ""),
     ("./silienvo route --bugdet 4 examples/a.job", 4, ""),
+    ("./silienvo route examples/a.job --help", 4, ""),
+    ("./silienvo route -- --help examples/a.job", 4, "--help: not read\nexamples/a.job: routed 4\n2 files: 1 routed, 0 unroutable, 0 undecided, 0 refused, 1 not read\n"),
     ("./silienvo route examples/a.job examples/a.job", 0, "examples/a.job: routed 4\nexamples/a.job: routed 4\n2 files: 2 routed, 0 unroutable, 0 undecided, 0 refused, 0 not read\n"),
     ("./silienvo route examples/b.job examples/a.job", 1, "examples/b.job: unroutable 10\nexamples/a.job: routed 4\n2 files: 1 routed, 1 unroutable, 0 undecided, 0 refused, 0 not read\n"),
     ("./silienvo route undecided.job examples/b.job", 2, "undecided.job: undecided 1000000\nexamples/b.job: unroutable 10\n2 files: 0 routed, 1 unroutable, 1 undecided, 0 refused, 0 not read\n"),
