@@ -14,8 +14,8 @@ use Rattle.jobfile.specs.Rows.{nOf, tOf, mOf, kOf, connectionsAt, trackRead, co
 use Rattle.jobfile.specs.Reads.{Facts, Offsets}
 use Rattle.jobfile.proofs.Decode.{job-valid}
 use Rattle.jobfile.proofs.Exact.{job-numbers}
-use Rattle.jobfile.proofs.Places.{track-at, connection-at}
 use Rattle.occupancy.specs.Runs.{Cell}
+use Rattle.occupancy.proofs.Reading.{fine-read, cell-read}
 use Rattle.marks.specs.Marking.{markBytes, fitsRun, takenRun, Among}
 use Rattle.marks.proofs.Laws.{run-open}
 use Rattle.marks.proofs.Kept.{Kept, among, run-ok, run-next, kept-nil}
@@ -64,12 +64,12 @@ module _ (f q marks : List ℕ) (i : ℕ) (g : Going f q marks i) where
     going-connection = omega (arith, g .many)
 
     pub going-fine : (heads : List ℕ) → Offsets f heads → FineAt f (nOf f) (connectionsAt f) (getD heads (getD q i 0 - 1) 0)
-    going-fine heads o = rw (o .at (getD q i 0 - 1) (omega arith)) (g .facts .fine (getD q i 0 - 1) (omega arith))
+    going-fine heads o = fine-read f heads (g .facts) o (getD q i 0) low high
 
     -- the cell that was read there
     module _ (heads : List ℕ) (o : Offsets f heads) (a e : ℕ) (c : Cell (kOf f) (trackRead f (getD heads (getD q i 0 - 1) 0)) (connectionRead f (connectionsAt f + 3 * i)) a e) where
       cell : Cell (kOf f) (trackAt (jobOf f .tracks) (getD q i 0)) (connectionAt (jobOf f .connections) i) a e
-      cell = rw (track-at f (g .facts) (getD q i 0) low high, connection-at f (g .facts) i going-connection) (rw (o .at (getD q i 0 - 1) (omega arith)) at c)
+      cell = cell-read f heads (g .facts) o (getD q i 0) low high i going-connection a e c
 
       -- the test by marks is that of the routings
       test : fitsRun marks (getD q i 0) a e ≡ (routings (jobOf f)) .ok (take i q) (getD q i 0)

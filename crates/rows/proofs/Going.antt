@@ -11,11 +11,11 @@ use Rattle.text.specs.Text.{Wrote}
 use Rattle.text.proofs.Writing.{then, wrote-none}
 use Rattle.channel.specs.Channel.{occupiedBy, trackAt, connectionAt}
 use Rattle.channel.specs.Routing.{Routing}
-use Rattle.jobfile.specs.Rows.{nOf, tOf, mOf, kOf, connectionsAt, start, trackRead, connectionRead, FineAt, jobOf}
+use Rattle.jobfile.specs.Rows.{nOf, tOf, mOf, kOf, connectionsAt, trackRead, connectionRead, FineAt, jobOf}
 use Rattle.jobfile.specs.Reads.{Facts, Offsets}
 use Rattle.jobfile.proofs.Exact.{job-numbers}
-use Rattle.jobfile.proofs.Places.{track-at, connection-at}
 use Rattle.occupancy.specs.Runs.{Run, Cell}
+use Rattle.occupancy.proofs.Reading.{fine-read, cell-read}
 use Rattle.rows.specs.Rows.{rowRoom, firstOf, lastOf, rowText, rowsText}
 use Rattle.rows.proofs.Runs.{run-first, run-last}
 
@@ -53,16 +53,13 @@ module _ (f q old : List ℕ) (at : ℕ) (new : List ℕ) (to i : ℕ) (g : Goin
 
     -- the table of starts has its track's record
     module _ (heads : List ℕ) (o : Offsets f heads) where
-      head : getD heads (getD q i 0 - 1) 0 ≡ start f (getD q i 0 - 1)
-      head = o .at (getD q i 0 - 1) (omega (arith, going-low, going-high))
-
       pub going-fine : FineAt f (nOf f) (connectionsAt f) (getD heads (getD q i 0 - 1) 0)
-      going-fine = rw head (g .facts .fine (getD q i 0 - 1) (omega (arith, going-low, going-high)))
+      going-fine = fine-read f heads (g .facts) o (getD q i 0) going-low going-high
 
       -- the cell that was read there, and what it tells
       module _ (a e : ℕ) (c : Cell (kOf f) (trackRead f (getD heads (getD q i 0 - 1) 0)) (connectionRead f (connectionsAt f + 3 * i)) a e) where
         cell : Cell (kOf f) (trackAt (jobOf f .tracks) (getD q i 0)) (connectionAt (jobOf f .connections) i) a e
-        cell = rw (track-at f (g .facts) (getD q i 0) going-low going-high, connection-at f (g .facts) i going-connection) (rw head at c)
+        cell = cell-read f heads (g .facts) o (getD q i 0) going-low going-high i going-connection a e c
 
         order : a ≤ e
         order = ltb-false _ _ (sym (cell .shut) ∙ g .routing .legal .allowed i h)
