@@ -8,7 +8,7 @@ use std::io;
 const A: &str = "routed 4\n1 1 1 1\n2 2 2 2\n3 1 2 2\n";
 
 /// A line, its status, and all of its standard output.
-const LINES: [(&str, i32, &str); 76] = [
+const LINES: [(&str, i32, &str); 78] = [
     ("./route < examples/a.job", 0, A),
     ("./route < examples/b.job", 1, "unroutable 10\n"),
     ("./route < undecided.job", 2, "undecided 1000000\n"),
@@ -67,6 +67,8 @@ const LINES: [(&str, i32, &str); 76] = [
     ("printf 'connection 1 12\\nconnection 7 30 critical # late\\n' | ./silienvo p1 3 > p1.job", 0, ""),
     ("./silienvo route p1.job", 0, "routed 8\n1 1 1 3\n2 7 1 2\n"),
     ("printf 'connection 1 31\\n' | ./silienvo p1 3", 3, "refused 5 1\n"),
+    ("for i in {1..64}; do echo connection 1 1; done | ./silienvo p1 32 | wc -c", 0, "250\n"),
+    ("for i in {1..65}; do echo connection 1 1; done | ./silienvo p1 32", 3, "refused 2 0\n"),
     ("./silienvo p1 33 < /dev/null", 3, "refused 2 0\n"),
     ("./silienvo p1 K < /dev/null", 4, ""),
     ("printf 'track 30\\n' | ./silienvo p1 3", 4, ""),
@@ -147,6 +149,20 @@ fn cut_short(shell: &Shell, checks: &mut Checks) -> io::Result<()> {
     Ok(())
 }
 
+/// A program that is there, but older than its sources, where these cannot be built: it is not asked.
+fn not_built(shell: &Shell, checks: &mut Checks) -> io::Result<()> {
+    let prepare = "rm -rf stale && mkdir -p stale/{bin,crates,rust,docs,target/bin,target/staticlib,target/cargo/release} && cd stale && cp ../build ../route ../silienvo . \
+        && printf '#!/bin/sh\\necho routed 4; echo 0 >&3\\n' | tee target/bin/router > target/cargo/release/silienvo && touch target/staticlib/libsilienvo.a \
+        && chmod +x target/bin/router target/cargo/release/silienvo && touch -d '1 hour ago' target/bin/router target/cargo/release/silienvo target/staticlib/libsilienvo.a \
+        && printf '#!/bin/sh\\nexit 1\\n' | tee bin/rt > bin/cargo && chmod +x bin/rt bin/cargo && touch crates.txt crates/new rust/new docs/statuses.txt Cargo.toml Cargo.lock";
+    for line in ["./route < ../examples/a.job", "./silienvo route ../examples/a.job"] {
+        let ended = shell.line(&format!("{prepare} && PATH=$PWD/bin:$PATH && {line}"))?;
+        let said = ended.err.contains("could not be built");
+        checks.check(ended.status == Some(4) && ended.out.is_empty() && said, &format!("{line}, older than its sources: status 4"), || ended.shown());
+    }
+    Ok(())
+}
+
 pub fn run(shell: &Shell, checks: &mut Checks) -> io::Result<()> {
     checks.group("statuses");
     prepare(shell)?;
@@ -156,5 +172,6 @@ pub fn run(shell: &Shell, checks: &mut Checks) -> io::Result<()> {
     for line in GOOD {
         not_taken(shell, checks, line)?;
     }
-    cut_short(shell, checks)
+    cut_short(shell, checks)?;
+    not_built(shell, checks)
 }
