@@ -20,7 +20,7 @@ pub data Along {A : Type 0} (R : A → A → Type 0) : List A → List A → Typ
 abbrev Begins : List ℕ → List ℕ → Type 0
 Begins l m = (u : List ℕ) × (m ≡ l ++ u)
 
-map-along : {A B : Type 0} {R : A → A → Type 0} (S : B → B → Type 0) (f : A → B) → ((x y : A) → R x y → S (f x) (f y)) → {xs ys : List A} → Along R xs ys → Along S (map f xs) (map f ys)
+pub map-along : {A B : Type 0} {R : A → A → Type 0} (S : B → B → Type 0) (f : A → B) → ((x y : A) → R x y → S (f x) (f y)) → {xs ys : List A} → Along R xs ys → Along S (map f xs) (map f ys)
 map-along S f h (last {x = x} {y = y} ys r) = last (map f ys) (h x y r)
 map-along S f h (more x a) = more (f x) (map-along S f h a)
 
@@ -346,7 +346,7 @@ answer-same p q h k =
 abbrev pub Refuses : Parsed → Type 0
 Refuses a = (n : ℕ) × (a ≡ Refused6 n)
 
-refuses-or : (a : Parsed) → Refuses a ⊎ (accepts a ≡ true)
+pub refuses-or : (a : Parsed) → Refuses a ⊎ (accepts a ≡ true)
 unfolding accepts
 refuses-or (Refused6 n) = inl (n, refl)
 refuses-or (Sat xs) = inr refl
@@ -363,18 +363,6 @@ cut t n a e h = go (refuses-or (answerOf (take n t)))
     go : Refuses (answerOf (take n t)) ⊎ (accepts (answerOf (take n t)) ≡ true) → Refuses (answerOf (take n t)) ⊎ (answerOf (take n t) ≡ a)
     go (inl r) = inl r
     go (inr k) = inr (answer-same (take n t) (drop n t) k (rw whole (rw e h)) ∙ rw whole e)
-
-pub cut-sat : (t : List ℕ) (n : ℕ) (ls : List Word) → answerOf t ≡ Sat ls → Refuses (answerOf (take n t)) ⊎ (answerOf (take n t) ≡ Sat ls)
-unfolding accepts
-cut-sat t n ls e = cut t n (Sat ls) e refl
-
-pub cut-unsat : (t : List ℕ) (n : ℕ) → answerOf t ≡ Unsat → Refuses (answerOf (take n t)) ⊎ (answerOf (take n t) ≡ Unsat)
-unfolding accepts
-cut-unsat t n e = cut t n Unsat e refl
-
-pub cut-unsure : (t : List ℕ) (n : ℕ) → answerOf t ≡ Unsure → Refuses (answerOf (take n t)) ⊎ (answerOf (take n t) ≡ Unsure)
-unfolding accepts
-cut-unsure t n e = cut t n Unsure e refl
 
 -- the empty reply
 pub empty-refused : answerOf [] ≡ Refused6 0

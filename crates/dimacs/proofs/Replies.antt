@@ -1,15 +1,18 @@
--- THE CUT THEOREM for a job's clauses: no beginning of a reply gives another answer than the whole, but a refusal by row 6; and the empty
--- reply is refused by 6, place 0. Rows 7 and 8 see nothing but the words of the text, so `cut` carries over. Assumes nothing.
-use mathlib.Core.Path.{_≡_, refl, ap, _∙_}
-use mathlib.Core.Bool.{Bool, true, false, false≢true}
+-- THE CUT THEOREM for a job's clauses: no beginning of a reply gives another answer than the whole, but a refusal by row 6, unless row 6 refuses the
+-- whole; and the empty reply is refused by 6, place 0. Rows 7 and 8 see nothing but the words of the text, so `cut` carries over. Assumes nothing.
+use mathlib.Core.Path.{_≡_, refl, ap}
+use mathlib.Core.Bool.{Bool, true, false, cond}
 use mathlib.Core.List.{List, []}
 use mathlib.Core.Logic.{_⊎_, inl, inr}
-use Prim.Native.Nat.{ℕ}
+use Prim.Native.Nat.{ℕ, suc}
+use native.Mathlib.Omega.{arith}
+use lib.Dec.{eqb}
 use lib.ListN.{take}
-use Rattle.dimacs.specs.Clause.{Literal, Clause}
-use Rattle.dimacs.specs.Reply.{Parsed, Refused6, Sat, Unsat, Unsure, answerOf, accepts}
-use Rattle.dimacs.specs.Model.{Reply, Refused, Accepted, Claimed, Unknown, replied, replyOf}
-use Rattle.dimacs.proofs.Cut.{Refuses, cut, empty-refused}
+use Rattle.dimacs.specs.Clause.{Clause, firstFalse}
+use Rattle.dimacs.specs.Reply.{Parsed, Refused6, Sat, Unsat, Unsure, answerOf, accepts, Ended}
+use Rattle.dimacs.specs.Model.{Reply, Refused, Accepted, Claimed, Unknown, before, variables, holds, place7, checked, replied, replyOf}
+use Rattle.dimacs.proofs.Cut.{Refuses, refuses-or, cut, empty-refused}
+use Rattle.dimacs.proofs.Ended.{bad-line}
 
 module _ (n : ℕ) (cs : List Clause) where
   -- the text is refused by row 6
@@ -25,41 +28,32 @@ module _ (n : ℕ) (cs : List Clause) where
       go (inl r) = inl (r .0, ap (replied n cs) (r .1))
       go (inr e) = inr (ap (replied n cs) e)
 
-  -- an answer that is no refusal is not refused by row 6
-  answers : Reply → Bool
-  answers (Refused m p) = false
-  answers (Accepted xs) = true
-  answers Claimed = true
-  answers Unknown = true
-
-  not-refused : (a : Parsed) → answers (replied n cs a) ≡ true → accepts a ≡ true
-  unfolding replied accepts answers
-  not-refused (Refused6 p) h = absurd (false≢true h)
-  not-refused (Sat xs) h = refl
-  not-refused Unsat h = refl
-  not-refused Unsure h = refl
-
-  cut-answer : (t : List ℕ) (a : Reply) → answers a ≡ true → replyOf n cs t ≡ a → (k : ℕ) → RefusedBy6 (take k t) ⊎ (replyOf n cs (take k t) ≡ a)
-  unfolding replyOf
-  cut-answer t a h e k = go (cut-reply t k (not-refused (answerOf t) (ap answers e ∙ h)))
+  -- of every text: row 6 refuses it, or it refuses the beginning, or the beginning is answered as the whole is
+  pub cut-any : (t : List ℕ) (k : ℕ) → RefusedBy6 t ⊎ (RefusedBy6 (take k t) ⊎ (replyOf n cs (take k t) ≡ replyOf n cs t))
+  unfolding replyOf replied
+  cut-any t k = go (refuses-or (answerOf t))
     where
-      go : RefusedBy6 (take k t) ⊎ (replyOf n cs (take k t) ≡ replyOf n cs t) → RefusedBy6 (take k t) ⊎ (replyOf n cs (take k t) ≡ a)
-      go (inl r) = inl r
-      go (inr f) = inr (f ∙ e)
+      go : Refuses (answerOf t) ⊎ (accepts (answerOf t) ≡ true) → RefusedBy6 t ⊎ (RefusedBy6 (take k t) ⊎ (replyOf n cs (take k t) ≡ replyOf n cs t))
+      go (inl r) = inl (r .0, ap (replied n cs) (r .1))
+      go (inr h) = inr (cut-reply t k h)
 
-  -- if a whole reply is accepted, each of its beginnings is refused or accepted with the same model
-  pub cut-accepted : (t : List ℕ) (xs : List Literal) → replyOf n cs t ≡ Accepted xs → (k : ℕ) → RefusedBy6 (take k t) ⊎ (replyOf n cs (take k t) ≡ Accepted xs)
-  unfolding answers
-  cut-accepted t xs = cut-answer t (Accepted xs) refl
+  -- no other row gives a 6
+  six-says : (a : Parsed) (p : ℕ) → replied n cs a ≡ Refused 6 p → a ≡ Refused6 p
+  unfolding replied checked
+  six-says (Refused6 q) p h = cc
+  six-says (Sat xs) p h = go (eqb (place7 n (variables (before xs))) 0) (eqb (firstFalse (holds (before xs)) 1 cs) 0) h
+    where
+      go : (b c : Bool) → cond b (cond c (Accepted (before xs)) (Refused 8 (firstFalse (holds (before xs)) 1 cs))) (Refused 7 (place7 n (variables (before xs)))) ≡ Refused 6 p → Sat xs ≡ Refused6 p
+      go true true h = cc
+      go true false h = let z : _≡_ {A = ℕ} 8 6 = cc in absurd (omega arith)
+      go false c h = let z : _≡_ {A = ℕ} 7 6 = cc in absurd (omega arith)
+  six-says Unsat p h = cc
+  six-says Unsure p h = cc
 
-  -- if it is Claimed or Unknown, each beginning is refused or answered the same
-  pub cut-claimed : (t : List ℕ) → replyOf n cs t ≡ Claimed → (k : ℕ) → RefusedBy6 (take k t) ⊎ (replyOf n cs (take k t) ≡ Claimed)
-  unfolding answers
-  cut-claimed t = cut-answer t Claimed refl
-
-  pub cut-unknown : (t : List ℕ) → replyOf n cs t ≡ Unknown → (k : ℕ) → RefusedBy6 (take k t) ⊎ (replyOf n cs (take k t) ≡ Unknown)
-  unfolding answers
-  cut-unknown t = cut-answer t Unknown refl
+  -- a text that is refused at a line: so is each beginning in which that line has ended
+  pub line-reply : (t : List ℕ) (k p : ℕ) → replyOf n cs t ≡ Refused 6 (suc p) → Ended (take k t) (suc p) → replyOf n cs (take k t) ≡ Refused 6 (suc p)
+  unfolding replyOf replied
+  line-reply t k p h l = ap (replied n cs) (bad-line t k p (six-says (answerOf t) (suc p) h) l)
 
   -- the empty reply is refused by 6, place 0
   pub empty-reply : replyOf n cs [] ≡ Refused 6 0

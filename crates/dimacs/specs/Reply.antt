@@ -1,5 +1,5 @@
 -- A solver's reply: its lines, literals and answer, in the words of document 01, "A solver's reply". Assumes nothing: these are definitions.
-use Prim.Native.Nat.{ℕ, zero, suc, _+_, _-_, _*_}
+use Prim.Native.Nat.{ℕ, zero, suc, _+_, _-_, _*_, _<_}
 use mathlib.Core.Bool.{Bool, true, false, cond, _&&_}
 use mathlib.Core.List.{List, [], _∷_, _++_, map}
 use lib.ListN.{length}
@@ -26,6 +26,10 @@ kept (l ∷ m ∷ ls) = l ∷ kept (m ∷ ls)
 -- LF ends a line; the last may lack it
 unfoldable pub lines : List ℕ → List (List ℕ)
 lines t = kept (split 10 t)
+
+-- line p of a text, counted from 1, has ended: its LF is there
+abbrev pub Ended : List ℕ → ℕ → Type 0
+Ended t p = p < length (split 10 t)
 
 -- the same bytes
 unfoldable pub same : List ℕ → List ℕ → Bool

@@ -42,7 +42,7 @@ module _ (n : ℕ) (cs : List Clause) (t : List ℕ) where
 pub file-passes : (f : List ℕ) (j : Job) → FileOf f j → Passes (fileRows f)
 file-passes f j g = facts-pass f (facts-of f j g)
 
-module _ (f t l : List ℕ) (file : FileOf f (jobOf f)) (room : mOf f ≤ length l) where
+module _ (f t l : List ℕ) (pass : Passes (fileRows f)) (room : mOf f ≤ length l) where
   abbrev j : Job
   j = jobOf f
 
@@ -55,19 +55,16 @@ module _ (f t l : List ℕ) (file : FileOf f (jobOf f)) (room : mOf f ≤ length
   means : (a : Reply) → replyOf n cs t ≡ a → Means n cs t a
   means a e = subst (Means n cs t) e (reply-means n cs t)
 
-  pass : Passes (fileRows f)
-  pass = file-passes f j file
-
   -- from the answer to the text
-  pub answered-replies : (r : Answer) (l′ : List ℕ) → Answered j t l r l′ → Replies f t l r l′
-  answered-replies variant.Accepted l′ (xs, e, w) =
+  pub answered-replies : FileOf f j → (r : Answer) (l′ : List ℕ) → Answered j t l r l′ → Replies f t l r l′
+  answered-replies file variant.Accepted l′ (xs, e, w) =
       let a = accepted-model n cs t xs e in (
         passes-text f (length l) t pass room (passes-of n cs t xs (means (Accepted xs) e)),
         (j, file, (labelsBy j (holds xs), labels-route j (holds xs) (a .1 .all), record { literals = xs; gives = a .0; values = labels-spell j (holds xs) (a .1 .all) }, w)),
       )
-  answered-replies variant.Claimed l′ (e, w) = let a = claims-of n cs t (means Claimed e) in (passes-text f (length l) t pass room (a .1), ((j, file), a .0), w)
-  answered-replies variant.Unknown l′ (e, w) = let a = unknown-of n cs t (means Unknown e) in (passes-text f (length l) t pass room (a .1), ((j, file), a .0), w)
-  answered-replies (variant.Refused num place) l′ (e, w) = (refused-text f (length l) t pass room num place (refuses-of n cs t num place (means (Refused num place) e)), w)
+  answered-replies file variant.Claimed l′ (e, w) = let a = claims-of n cs t (means Claimed e) in (passes-text f (length l) t pass room (a .1), ((j, file), a .0), w)
+  answered-replies file variant.Unknown l′ (e, w) = let a = unknown-of n cs t (means Unknown e) in (passes-text f (length l) t pass room (a .1), ((j, file), a .0), w)
+  answered-replies file (variant.Refused num place) l′ (e, w) = (refused-text f (length l) t pass room num place (refuses-of n cs t num place (means (Refused num place) e)), w)
 
   text-passes : Passes (replyCall f (length l) t) → Passes (replyRows n cs t)
   text-passes g x p h = g x p (inr (inr h))

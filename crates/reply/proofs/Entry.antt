@@ -31,4 +31,4 @@ module _ (f text l : List ℕ) (x : Read) (g : Reads f x) where
     call-is h = record { facts = is .facts; t-is = is .t-is; m-is = q ∙ is .m-is; room = h }
 
     pub out-text : w ≤ length l → (r : Answer) (l′ : List ℕ) → Answered (jobOf f) text l r l′ → Replies f text l r l′
-    out-text h = let a = is .m-is in answered-replies f text l (is .file) (omega arith)
+    out-text h = let a = is .m-is in answered-replies f text l (facts-pass f (is .facts)) (omega arith) (is .file)

@@ -16,7 +16,7 @@ use Rattle.dimacs.specs.Model.{holds, Reply, Refused, Accepted, Claimed, Unknow
 use Rattle.dimacs.specs.Refusals.{linesIn, WellFormed, Keeps, Says, Gives, replyRows, Means, is-claimed, is-unknown}
 use Rattle.dimacs.proofs.Decided.{gives-one, means-is, accepted-model, model-accepted}
 use Rattle.clauses.specs.Clauses.{clauses, variableCount, spelled}
-use Rattle.jobfile.specs.Rows.{mOf, jobOf}
+use Rattle.jobfile.specs.Rows.{fileRows, mOf, jobOf}
 use Rattle.jobfile.specs.Reads.{FileOf}
 use Rattle.jobfile.proofs.Exact.{job-is, job-numbers}
 use Rattle.reply.specs.declared.Answer.{Answer}
@@ -24,7 +24,7 @@ use Rattle.reply.specs.declared.Answer.the-variants as variant
 use Rattle.reply.specs.Replies.{replyCall, Spells, Replies, Modelled}
 use Rattle.reply.specs.Steps.{labelsBy, Answered}
 use Rattle.reply.proofs.Rows.{call-room, call-sound}
-use Rattle.reply.proofs.Bridge.{replies-answered, settled-file}
+use Rattle.reply.proofs.Bridge.{file-passes, replies-answered, settled-file}
 use Rattle.reply.proofs.Spelling.{labels-are}
 
 -- the answer, and the lent bytes after it, by what is replied to the text
@@ -48,12 +48,12 @@ answered-is j t l (variant.Refused num place) l′ (e, w) = (sym (ap named e), w
 
 module _ (f t l : List ℕ) where
   -- where the file and the buffer pass, the answer is what is replied to the text
-  pub replies-is : FileOf f (jobOf f) → mOf f ≤ length l → (r : Answer) (l′ : List ℕ) → Replies f t l r l′ → (r ≡ named (replyOf (variableCount (jobOf f)) (clauses (jobOf f)) t)) × (l′ ≡ left (jobOf f) l (replyOf (variableCount (jobOf f)) (clauses (jobOf f)) t))
-  replies-is file room r l′ g = answered-is (jobOf f) t l r l′ (replies-answered f t l file room r l′ g)
+  pub replies-is : Passes (fileRows f) → mOf f ≤ length l → (r : Answer) (l′ : List ℕ) → Replies f t l r l′ → (r ≡ named (replyOf (variableCount (jobOf f)) (clauses (jobOf f)) t)) × (l′ ≡ left (jobOf f) l (replyOf (variableCount (jobOf f)) (clauses (jobOf f)) t))
+  replies-is pass room r l′ g = answered-is (jobOf f) t l r l′ (replies-answered f t l pass room r l′ g)
 
   via : (j : Job) → FileOf f j → Passes (replyCall f (length l) t) → (r s : Answer) (l′ m : List ℕ) → Replies f t l r l′ → Replies f t l s m → (r ≡ s) × (l′ ≡ m)
   via j file p r s l′ m g h =
-      let x = replies-is (settled-file f j file) (call-room f (length l) t p) in
+      let x = replies-is (file-passes f j file) (call-room f (length l) t p) in
       let a = x r l′ g in
       let b = x s m h in
       (a .0 ∙ sym (b .0), a .1 ∙ sym (b .1))
@@ -76,7 +76,7 @@ module _ (f t l : List ℕ) where
       there h =
           let file = settled-file f (h .1 .0) (h .1 .1) in
           let room = call-room f (length l) t (h .0) in
-          let a = replies-answered f t l file room variant.Accepted l′ h in
+          let a = replies-answered f t l (file-passes f (jobOf f) file) room variant.Accepted l′ h in
           let b = accepted-model (variableCount (jobOf f)) (clauses (jobOf f)) t (a .0) (a .1) in
           (jobOf f, file, (let e = job-numbers f .m-is in omega arith), record { literals = a .0; gives = b .0; model = b .1 })
 
@@ -86,7 +86,7 @@ module _ (f t l : List ℕ) where
           let m′ = subst (λ i. Modelled i t) d m in
           let e = model-accepted (variableCount (jobOf f)) (clauses (jobOf f)) t (m′ .literals) (m′ .gives) (m′ .model) in
           let few : M (jobOf f) ≤ length l = subst (λ i. M i ≤ length l) d room in
-          replies-is (settled-file f j file) (let k = job-numbers f .m-is in omega arith) r l′ g .0 ∙ ap named e
+          replies-is (file-passes f j file) (let k = job-numbers f .m-is in omega arith) r l′ g .0 ∙ ap named e
 
   -- a refusal is given exactly as the table decides
   pub refused-exactly : (r : Answer) (l′ : List ℕ) → Replies f t l r l′ → (num place : ℕ) → (r ≡ variant.Refused num place) ↔ Refuses (replyCall f (length l) t) num place
@@ -113,7 +113,7 @@ module _ (f t l : List ℕ) where
         let n = variableCount (jobOf f) in
         let cs = clauses (jobOf f) in
         let few : M (jobOf f) ≤ length l = subst (λ i. M i ≤ length l) (job-is f j file) room in
-        replies-is (settled-file f j file) (let m = job-numbers f .m-is in omega arith) r l′ g .0 ∙ ap named (means-is n cs t (is n cs h (says-passes s n cs h k other)))
+        replies-is (file-passes f j file) (let m = job-numbers f .m-is in omega arith) r l′ g .0 ∙ ap named (means-is n cs t (is n cs h (says-passes s n cs h k other)))
 
   -- the file and the buffer of an answer without a model
   room-of : Passes (replyCall f (length l) t) → (j : Job) → FileOf f j → M j ≤ length l

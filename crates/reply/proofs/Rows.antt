@@ -16,7 +16,7 @@ use Rattle.jobfile.proofs.Exact.{file-sound, file-before}
 use Rattle.reply.specs.Replies.{replyCall}
 
 -- the text's rows stand behind row 9
-text-behind : (k n : ℕ) (cs : List Clause) (t : List ℕ) → k ≤ line 6 → Behind k (replyRows n cs t)
+pub text-behind : (k n : ℕ) (cs : List Clause) (t : List ℕ) → k ≤ line 6 → Behind k (replyRows n cs t)
 text-behind k n cs t l = behind-or (behind-row l) (behind-or (behind-row (omega (arith, printed-order))) (behind-row (omega (arith, printed-order))))
 
 module _ (f : List ℕ) (lent : ℕ) (t : List ℕ) where

@@ -47,6 +47,10 @@ pub record Modelled (j : Job) (t : List ℕ) : Type 0 where
   pub gives : Gives t literals
   pub model : IsModel (variableCount j) (clauses j) literals
 
--- an answer s that leaves m, held against an answer r that leaves l′: s is a refusal and the lent bytes l are as they were, or s is the same and leaves the same
-abbrev pub RefusedOrSame : List ℕ → Answer → List ℕ → Answer → List ℕ → Type 0
-RefusedOrSame l r l′ s m = (((num : ℕ) × ((place : ℕ) × (s ≡ variant.Refused num place))) × (m ≡ l)) ⊎ ((s ≡ r) × (m ≡ l′))
+-- an answer s that leaves m, held against an answer r that leaves l′: s is a refusal by row 6 and the lent bytes l are as they were, or s is the same and
+-- leaves the same
+abbrev pub BySix : List ℕ → Answer → List ℕ → Type 0
+BySix l s m = ((place : ℕ) × (s ≡ variant.Refused 6 place)) × (m ≡ l)
+
+abbrev pub SixOrSame : List ℕ → Answer → List ℕ → Answer → List ℕ → Type 0
+SixOrSame l r l′ s m = BySix l s m ⊎ ((s ≡ r) × (m ≡ l′))
