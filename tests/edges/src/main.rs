@@ -6,6 +6,7 @@ mod header;
 mod incident;
 mod pages;
 mod pictures;
+mod promises;
 mod shell;
 mod statuses;
 
@@ -17,6 +18,7 @@ fn main() -> std::io::Result<()> {
     let shell = Shell::new()?;
     statuses::run(&shell, &mut checks)?;
     pages::run(&shell, &mut checks)?;
+    promises::run(&shell, &mut checks)?;
     pictures::run(&shell, &mut checks)?;
     header::run(&shell, &mut checks)?;
     incident::run(&shell, &mut checks)?;

@@ -8,13 +8,15 @@ use std::io;
 const A: &str = "routed 4\n1 1 1 1\n2 2 2 2\n3 1 2 2\n";
 
 /// A line, its status, and all of its standard output.
-const LINES: [(&str, i32, &str); 78] = [
+const LINES: [(&str, i32, &str); 80] = [
     ("./route < examples/a.job", 0, A),
     ("./route < examples/b.job", 1, "unroutable 10\n"),
     ("./route < undecided.job", 2, "undecided 1000000\n"),
     ("./route < cut.job", 3, "refused 3 0\n"),
     ("./route < /dev/null", 3, "refused 1 0\n"),
     ("head -c 5000 /dev/zero | ./route", 3, "refused 3 0\n"),
+    ("{ head -c 4088 /dev/zero; printf '\\370\\017\\0\\0\\6\\2\\0\\2'; } | ./route", 3, "refused 4 1\n"),
+    ("{ head -c 4088 /dev/zero; printf '\\370\\017\\0\\0\\6\\2\\0\\2x'; } | ./route", 3, "refused 3 0\n"),
     ("./route < .", 4, ""),
     ("./route <&-", 4, ""),
     ("./route examples/a.job", 4, ""),

@@ -252,6 +252,7 @@ fn program(all: &mut All) {
     add(all, "program -", hex(b"refused 1 0\n"));
     add(all, format!("program {}", left_over(4096 - 8)), hex(b"refused 4 2\n"));
     add(all, format!("program {}", left_over(4097 - 8)), hex(b"refused 3 0\n"));
+    add(all, format!("program {}00", left_over(4096 - 8)), hex(b"refused 3 0\n"));
     // Twelve tracks of one segment and thirteen connections over it: the last finds none, and the search would go on for longer than the budget.
     let all_over = job(1, 1, &[&[1u8][..]; 12], &[(1, 1); 13]);
     add(all, format!("program {all_over}"), hex(b"undecided 1000000\n"));
