@@ -1,4 +1,4 @@
-pub mod Each
+pub mod Joins
 pub mod Bits
 pub mod Width
 pub mod Spelling

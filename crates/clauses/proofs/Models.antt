@@ -10,7 +10,8 @@ use lib.ListN.{length, getD, length-map, List·getD-map}
 use Rattle.channel.specs.Channel.{Job, M, Barred, Collide}
 use Rattle.channel.specs.Routing.{Routing}
 use Rattle.dimacs.specs.Clause.{valueIn}
-use Rattle.clauses.specs.Clauses.{Grid, gridOf, labelWith, codeWith, widthOf, width, ModelOf, Model, spell, codesIn, codes, labels, spelled, labelsIn}
+use Rattle.clauses.specs.Clauses.{Grid, gridOf, labelWith, codeWith, widthOf, width, ModelOf, Model, spell, codes, spelled}
+use Rattle.clauses.specs.Reading.{codesIn, labels, labelsIn}
 use Rattle.clauses.proofs.Width.{bitsFor-is}
 use Rattle.clauses.proofs.Spelling.{spell-codes, codes-spell, codes-length, spell-length, codes-at, codeAt-number}
 use Rattle.clauses.proofs.Says.{Fits, fits-same, codeBy, fits-all, all-fits}
@@ -52,7 +53,7 @@ labels-codes : (q : List ℕ) → ((i : ℕ) → i < length q → 1 ≤ getD q i
 labels-codes [] h = refl
 labels-codes (l ∷ q) h = let k = h 0 (omega arith) in let e : l - 1 + 1 ≡ l = omega arith in λ z. e z ∷ labels-codes q (λ i g. h (suc i) (omega arith)) z
 
-label-at : (p : List ℕ) (i : ℕ) → i < length p → getD (labels p) i 0 ≡ labelWith (getD p i 0)
+pub label-at : (p : List ℕ) (i : ℕ) → i < length p → getD (labels p) i 0 ≡ labelWith (getD p i 0)
 label-at [] i l = absurd (omega arith)
 label-at (c ∷ p) zero l = refl
 label-at (c ∷ p) (suc i) l = label-at p i (omega arith)

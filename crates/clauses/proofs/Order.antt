@@ -8,19 +8,19 @@ use native.Mathlib.Omega.{arith}
 use native.Mathlib.Nat.{div-div-eq-div-mul, pow-succ', suc-mul, mul-le-mul, le-refl}
 use lib.ListN.{length, length-append}
 use borrow.Author.Tests.{le-leb}
-use Rattle.search.proofs.Settling.{and-both}
+use Rattle.facts.proofs.Bools.{and-both}
 use Rattle.channel.specs.Channel.{Job}
 use Rattle.dimacs.specs.Clause.{Literal, Clause, within, withinAll}
-use Rattle.clauses.specs.Clauses.{Grid, gridOf, each, odd, forbid, bar, widthOf, clausesOf, clauses, variableCount}
+use Rattle.clauses.specs.Clauses.{Grid, gridOf, joinTo, odd, forbid, bar, widthOf, clausesOf, clauses, variableCount}
 use Rattle.clauses.specs.Groups.{InPairs, Rises}
-use Rattle.clauses.proofs.Each.{each-same}
+use Rattle.clauses.proofs.Joins.{join-same}
 use Rattle.clauses.proofs.Groups.{clauses-are}
 
 -- to forbid a code of k bits: variable v + b, with b from 0, negated where bit b + 1 of the code, bit 1 the highest, is 1
-pub forbid-is : (k v c : ℕ) → forbid k v c ≡ each k (λ b. record { variable = v + b; negated = odd (c / 2 ^ (k - 1 - b)) } ∷ [])
-unfolding forbid each
+pub forbid-is : (k v c : ℕ) → forbid k v c ≡ joinTo k (λ b. record { variable = v + b; negated = odd (c / 2 ^ (k - 1 - b)) } ∷ [])
+unfolding forbid joinTo
 forbid-is zero v c = refl
-forbid-is (suc k) v c = λ z. (forbid-is k v (c / 2) ∙ each-same k _ _ (λ b l. ap (λ n. record { variable = v + b; negated = odd n } ∷ []) (halves b l))) z ++ (record { variable = v + k; negated = odd (whole z) } ∷ [])
+forbid-is (suc k) v c = λ z. (forbid-is k v (c / 2) ∙ join-same k _ _ (λ b l. ap (λ n. record { variable = v + b; negated = odd n } ∷ []) (halves b l))) z ++ (record { variable = v + k; negated = odd (whole z) } ∷ [])
   where
     halves : (b : ℕ) → b < k → (c / 2) / 2 ^ (k - 1 - b) ≡ c / 2 ^ (suc k - 1 - b)
     halves b l =
@@ -80,12 +80,12 @@ rises-within n from [] to a b r = refl
 rises-within n from (l ∷ c) to a b r =
     let z = rises-room (l .variable + 1) c to (r .1) in
     let s = r .0 in
-    and-both _ _ (and-both _ _ (le-leb 1 (l .variable) (omega arith)) (le-leb (l .variable) n (omega arith))) (rises-within n (l .variable + 1) c to (omega arith) b (r .1))
+    and-both (and-both (le-leb 1 (l .variable) (omega arith)) (le-leb (l .variable) n (omega arith))) (rises-within n (l .variable + 1) c to (omega arith) b (r .1))
 
 within-each : (n : ℕ) (cs : List Clause) → ((x : Clause) → List·Memᴰ x cs → within n x ≡ true) → withinAll n cs ≡ true
 unfolding withinAll
 within-each n [] h = refl
-within-each n (c ∷ cs) h = and-both _ _ (h c (List·Memᴰ·head refl)) (within-each n cs (λ x m. h x (List·Memᴰ·tail m)))
+within-each n (c ∷ cs) h = and-both (h c (List·Memᴰ·head refl)) (within-each n cs (λ x m. h x (List·Memᴰ·tail m)))
 
 pub clauses-within : (g : Grid) (n : ℕ) → g .connections * widthOf g ≤ n → withinAll n (clausesOf g) ≡ true
 clauses-within g n h = within-each n (clausesOf g) (λ x m. rises-within n 1 x (g .connections * widthOf g + 1) (omega arith) (omega arith) (clauses-rise g x m))

@@ -6,7 +6,7 @@ use Prim.Native.Nat.{ℕ, _<_}
 use lib.Dec.{ltb}
 use borrow.Author.Tests.{ltb-true}
 use Rattle.clauses.specs.Clauses.{Grid, only, bar, bitsFor, beyond, bars, meets, pairs, clausesOf}
-use Rattle.clauses.proofs.Each.{each-same}
+use Rattle.clauses.proofs.Joins.{join-same}
 
 module _ (t m : ℕ) (b b′ : ℕ → ℕ → Bool) (c c′ : ℕ → ℕ → ℕ → Bool)
     (eb : (i u : ℕ) → i < m → u < t → b i u ≡ b′ i u)
@@ -23,7 +23,7 @@ module _ (t m : ℕ) (b b′ : ℕ → ℕ → Bool) (c c′ : ℕ → ℕ → �
 
   same-bars : bars one ≡ bars other
   unfolding bars
-  same-bars = each-same m _ _ (λ i l. each-same t _ _ (λ u k. ap (λ x. only x (bar (bitsFor t) i u)) (eb i u l k)))
+  same-bars = join-same m _ _ (λ i l. join-same t _ _ (λ u k. ap (λ x. only x (bar (bitsFor t) i u)) (eb i u l k)))
 
   same-meets : (i j u : ℕ) → i < m → j < m → u < t → meets one i j u ≡ meets other i j u
   same-meets i j u l k h = go (ltb i j) refl (b i u) refl (b j u) refl ∙ (λ z. ltb i j && (c′ i j u && (not (eb i u l h z) && not (eb j u k h z))))
@@ -36,7 +36,7 @@ module _ (t m : ℕ) (b b′ : ℕ → ℕ → Bool) (c c′ : ℕ → ℕ → �
 
   same-pairs : pairs one ≡ pairs other
   unfolding pairs
-  same-pairs = each-same m _ _ (λ i l. each-same m _ _ (λ j k. each-same t _ _ (λ u h. ap (λ x. only x (bar (bitsFor t) i u ++ bar (bitsFor t) j u)) (same-meets i j u l k h))))
+  same-pairs = join-same m _ _ (λ i l. join-same m _ _ (λ j k. join-same t _ _ (λ u h. ap (λ x. only x (bar (bitsFor t) i u ++ bar (bitsFor t) j u)) (same-meets i j u l k h))))
 
   pub same-clauses : clausesOf one ≡ clausesOf other
   unfolding clausesOf

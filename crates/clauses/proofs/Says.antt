@@ -1,16 +1,16 @@
 -- What a grid's clauses say of the codes that the variables spell: each is a track's, it is not barred, and no two connections with one code collide there.
 -- Assumes nothing.
 use mathlib.Core.Path.{_≡_, refl, sym, ap, _∙_, subst}
-use mathlib.Core.Bool.{Bool, true, false, _||_, not, false≢true}
+use mathlib.Core.Bool.{Bool, true, false, _||_, not}
 use mathlib.Core.List.{_++_}
 use Prim.Native.Nat.{ℕ, _+_, _*_, _-_, _^_, _<_}
 use native.Mathlib.Omega.{arith}
 use lib.Dec.{ltb}
 use borrow.Author.Tests.{ltb-true, ltb-false, lt-ltb}
-use Rattle.search.proofs.Settling.{and-left, and-right, and-both}
+use Rattle.facts.proofs.Bools.{and-left, and-right, and-both, true-by, false-by, neither, not-both}
 use Rattle.dimacs.specs.Clause.{makes, makesAll}
 use Rattle.clauses.specs.Clauses.{Grid, bar, widthOf, beyond, bars, pairs, meets, clausesOf}
-use Rattle.clauses.proofs.Each.{makes-append, all-left, all-right, all-both, all-each, each-all, all-one, one-all, all-only, only-all}
+use Rattle.clauses.proofs.Joins.{makes-append, all-left, all-right, all-both, all-join, join-all, all-one, one-all, all-only, only-all}
 use Rattle.clauses.proofs.Bits.{codeAt, codeAt-lt, unmade, spelt}
 use Rattle.clauses.proofs.Width.{bitsFor-is}
 
@@ -38,11 +38,7 @@ module _ (grid : Grid) (σ : ℕ → Bool) where
   has i c l h = unmade σ (widthOf grid) (i * widthOf grid + 1) c l h
 
   made : (i c : ℕ) → (codeBy i ≡ c → ⊥) → c < 2 ^ widthOf grid → makes σ (bar (widthOf grid) i c) ≡ true
-  made i c n l = go (makes σ (bar (widthOf grid) i c)) refl
-    where
-      go : (b : Bool) → makes σ (bar (widthOf grid) i c) ≡ b → b ≡ true
-      go true h = refl
-      go false h = absurd (n (has i c l h))
+  made i c n l = true-by (λ h. n (has i c l h))
 
   unmade-bar : (i : ℕ) → makes σ (bar (widthOf grid) i (codeBy i)) ≡ false
   unfolding bar
@@ -51,33 +47,26 @@ module _ (grid : Grid) (σ : ℕ → Bool) where
   small : (c : ℕ) → c < grid .tracks → c < 2 ^ widthOf grid
   small c h = let w = bitsFor-is (grid .tracks) .enough in omega arith
 
-  never : {b : Bool} {A : Type 0} → b ≡ true → b ≡ false → A
-  never p q = absurd (false≢true (sym q ∙ p))
-
   all-beyond : Fits grid codeBy → makesAll σ (beyond grid) ≡ true
   unfolding beyond
-  all-beyond s = all-each σ (grid .connections) _ (λ i l. all-each σ (2 ^ widthOf grid - grid .tracks) _ (λ k g. all-one σ _ (made i (grid .tracks + k) (λ e. let z = s .tracks i l in omega arith) (omega arith))))
+  all-beyond s = all-join σ (grid .connections) _ (λ i l. all-join σ (2 ^ widthOf grid - grid .tracks) _ (λ k g. all-one σ _ (made i (grid .tracks + k) (λ e. let z = s .tracks i l in omega arith) (omega arith))))
 
   all-bars : Fits grid codeBy → makesAll σ (bars grid) ≡ true
   unfolding bars
-  all-bars s = all-each σ (grid .connections) _ (λ i l. all-each σ (grid .tracks) _ (λ t g. all-only σ (grid .barred i t) _ (λ b. made i t (λ e. never b (subst (λ x. grid .barred i x ≡ false) e (s .allowed i l))) (small t g))))
+  all-bars s = all-join σ (grid .connections) _ (λ i l. all-join σ (grid .tracks) _ (λ t g. all-only σ (grid .barred i t) _ (λ b. made i t (λ e. not-both b (subst (λ x. grid .barred i x ≡ false) e (s .allowed i l))) (small t g))))
 
   all-pairs : Fits grid codeBy → makesAll σ (pairs grid) ≡ true
   unfolding pairs
-  all-pairs s = all-each σ (grid .connections) _ (λ i l. all-each σ (grid .connections) _ (λ j k. all-each σ (grid .tracks) _ (λ t g. all-only σ (meets grid i j t) _ (λ b. pair i j t k g b))))
+  all-pairs s = all-join σ (grid .connections) _ (λ i l. all-join σ (grid .connections) _ (λ j k. all-join σ (grid .tracks) _ (λ t g. all-only σ (meets grid i j t) _ (λ b. pair i j t k g b))))
     where
       pair : (i j t : ℕ) → j < grid .connections → t < grid .tracks → meets grid i j t ≡ true → makes σ (bar (widthOf grid) i t ++ bar (widthOf grid) j t) ≡ true
-      pair i j t k g b = makes-append σ (bar (widthOf grid) i t) (bar (widthOf grid) j t) ∙ go (makes σ (bar (widthOf grid) i t)) (makes σ (bar (widthOf grid) j t)) refl refl
-        where
-          go : (x y : Bool) → makes σ (bar (widthOf grid) i t) ≡ x → makes σ (bar (widthOf grid) j t) ≡ y → (x || y) ≡ true
-          go true y h h′ = refl
-          go false true h h′ = refl
-          go false false h h′ =
-              let e : codeBy i ≡ t = has i t (small t g) h in
-              let e′ : codeBy j ≡ t = has j t (small t g) h′ in
-              let lt = ltb-true i j (and-left _ _ b) in
-              let c : grid .collide i j t ≡ true = and-left _ _ (and-right (ltb i j) _ b) in
-              never c (subst (λ x. grid .collide i j x ≡ false) e (s .apart i j lt k (e ∙ sym e′)))
+      pair i j t k g b = makes-append σ (bar (widthOf grid) i t) (bar (widthOf grid) j t) ∙ true-by (λ f.
+          let n = neither (makes σ (bar (widthOf grid) i t)) _ f in
+          let e : codeBy i ≡ t = has i t (small t g) (n .0) in
+          let e′ : codeBy j ≡ t = has j t (small t g) (n .1) in
+          let lt = ltb-true i j (and-left _ _ b) in
+          let c : grid .collide i j t ≡ true = and-left _ _ (and-right (ltb i j) _ b) in
+          not-both c (subst (λ x. grid .collide i j x ≡ false) e (s .apart i j lt k (e ∙ sym e′))))
 
   pub fits-all : Fits grid codeBy → makesAll σ (clausesOf grid) ≡ true
   unfolding clausesOf
@@ -85,15 +74,15 @@ module _ (grid : Grid) (σ : ℕ → Bool) where
 
   unfold-beyond : makesAll σ (beyond grid) ≡ true → (i k : ℕ) → i < grid .connections → k < 2 ^ widthOf grid - grid .tracks → makes σ (bar (widthOf grid) i (grid .tracks + k)) ≡ true
   unfolding beyond
-  unfold-beyond h i k l g = one-all σ _ (each-all σ (2 ^ widthOf grid - grid .tracks) _ (each-all σ (grid .connections) _ h i l) k g)
+  unfold-beyond h i k l g = one-all σ _ (join-all σ (2 ^ widthOf grid - grid .tracks) _ (join-all σ (grid .connections) _ h i l) k g)
 
   unfold-bars : makesAll σ (bars grid) ≡ true → (i t : ℕ) → i < grid .connections → t < grid .tracks → grid .barred i t ≡ true → makes σ (bar (widthOf grid) i t) ≡ true
   unfolding bars
-  unfold-bars h i t l g b = only-all σ (grid .barred i t) _ (each-all σ (grid .tracks) _ (each-all σ (grid .connections) _ h i l) t g) b
+  unfold-bars h i t l g b = only-all σ (grid .barred i t) _ (join-all σ (grid .tracks) _ (join-all σ (grid .connections) _ h i l) t g) b
 
   unfold-pairs : makesAll σ (pairs grid) ≡ true → (i j t : ℕ) → i < grid .connections → j < grid .connections → t < grid .tracks → meets grid i j t ≡ true → makes σ (bar (widthOf grid) i t ++ bar (widthOf grid) j t) ≡ true
   unfolding pairs
-  unfold-pairs h i j t l k g b = only-all σ (meets grid i j t) _ (each-all σ (grid .tracks) _ (each-all σ (grid .connections) _ (each-all σ (grid .connections) _ h i l) j k) t g) b
+  unfold-pairs h i j t l k g b = only-all σ (meets grid i j t) _ (join-all σ (grid .tracks) _ (join-all σ (grid .connections) _ (join-all σ (grid .connections) _ h i l) j k) t g) b
 
   pub all-fits : makesAll σ (clausesOf grid) ≡ true → Fits grid codeBy
   unfolding clausesOf
@@ -109,25 +98,17 @@ module _ (grid : Grid) (σ : ℕ → Bool) where
       h₃ = all-right σ (bars grid) _ (all-right σ (beyond grid) _ h)
 
       tracks : (i : ℕ) → i < grid .connections → codeBy i < grid .tracks
-      tracks i l = go (ltb (codeBy i) (grid .tracks)) refl
-        where
-          go : (b : Bool) → ltb (codeBy i) (grid .tracks) ≡ b → codeBy i < grid .tracks
-          go true e = ltb-true (codeBy i) (grid .tracks) e
-          go false e =
-              let n = ltb-false (codeBy i) (grid .tracks) e in
-              let z = codeAt-lt σ (widthOf grid) (i * widthOf grid + 1) in
-              let r : grid .tracks + (codeBy i - grid .tracks) ≡ codeBy i = omega arith in
-              never (unfold-beyond h₁ i (codeBy i - grid .tracks) l (omega arith)) (subst (λ x. makes σ (bar (widthOf grid) i x) ≡ false) (sym r) (unmade-bar i))
+      tracks i l = ltb-true (codeBy i) (grid .tracks) (true-by (λ e.
+          let n = ltb-false (codeBy i) (grid .tracks) e in
+          let z = codeAt-lt σ (widthOf grid) (i * widthOf grid + 1) in
+          let r : grid .tracks + (codeBy i - grid .tracks) ≡ codeBy i = omega arith in
+          not-both (unfold-beyond h₁ i (codeBy i - grid .tracks) l (omega arith)) (subst (λ x. makes σ (bar (widthOf grid) i x) ≡ false) (sym r) (unmade-bar i))))
 
       allowed : (i : ℕ) → i < grid .connections → grid .barred i (codeBy i) ≡ false
-      allowed i l = go (grid .barred i (codeBy i)) refl
-        where
-          go : (b : Bool) → grid .barred i (codeBy i) ≡ b → b ≡ false
-          go true e = never (unfold-bars h₂ i (codeBy i) l (tracks i l) e) (unmade-bar i)
-          go false e = refl
+      allowed i l = false-by (λ e. not-both (unfold-bars h₂ i (codeBy i) l (tracks i l) e) (unmade-bar i))
 
       apart : (i j : ℕ) → i < j → j < grid .connections → codeBy i ≡ codeBy j → grid .collide i j (codeBy i) ≡ false
-      apart i j l k q = go (grid .collide i j (codeBy i)) refl
+      apart i j l k q = false-by (λ e. not-both (both (and-both (lt-ltb i j l) (and-both e (and-both (ap not (allowed i i<)) (ap not (subst (λ x. grid .barred j x ≡ false) (sym q) (allowed j k))))))) unmade-both)
         where
           i< : i < grid .connections
           i< = omega arith
@@ -135,9 +116,5 @@ module _ (grid : Grid) (σ : ℕ → Bool) where
           both : meets grid i j (codeBy i) ≡ true → (makes σ (bar (widthOf grid) i (codeBy i)) || makes σ (bar (widthOf grid) j (codeBy i))) ≡ true
           both m = sym (makes-append σ (bar (widthOf grid) i (codeBy i)) (bar (widthOf grid) j (codeBy i))) ∙ unfold-pairs h₃ i j (codeBy i) i< k (tracks i i<) m
 
-          neither : (makes σ (bar (widthOf grid) i (codeBy i)) || makes σ (bar (widthOf grid) j (codeBy i))) ≡ false
-          neither = λ n. unmade-bar i n || subst (λ x. makes σ (bar (widthOf grid) j x) ≡ false) (sym q) (unmade-bar j) n
-
-          go : (b : Bool) → grid .collide i j (codeBy i) ≡ b → b ≡ false
-          go true e = never (both (and-both _ _ (lt-ltb i j l) (and-both _ _ e (and-both _ _ (ap not (allowed i i<)) (ap not (subst (λ x. grid .barred j x ≡ false) (sym q) (allowed j k))))))) neither
-          go false e = refl
+          unmade-both : (makes σ (bar (widthOf grid) i (codeBy i)) || makes σ (bar (widthOf grid) j (codeBy i))) ≡ false
+          unmade-both = λ n. unmade-bar i n || subst (λ x. makes σ (bar (widthOf grid) j x) ≡ false) (sym q) (unmade-bar j) n

@@ -8,8 +8,10 @@ use native.Mathlib.Nat.{pow-succ', zero-mul, suc-mul}
 use lib.ListN.{length, getD, take, drop, length-append, length-drop, take-append-drop, List·getD-append}
 use lib.Seq.{take-suc, getD-at, drop-at, drop-drop, getD-drop}
 use Rattle.dimacs.specs.Clause.{valueIn}
-use Rattle.clauses.specs.Clauses.{odd, digit, bits, spell, number, codesIn}
-use Rattle.clauses.proofs.Bits.{digit-le, digit-odd, odd-digit, codeAt}
+use Rattle.clauses.specs.Clauses.{odd, bits, spell}
+use Rattle.clauses.specs.Reading.{bitOf, numberIn, codesIn}
+use Rattle.clauses.proofs.Joins.{bit-le}
+use Rattle.clauses.proofs.Bits.{bit-odd, odd-bit, codeAt}
 
 bits-length : (k c : ℕ) → length (bits k c) ≡ k
 unfolding bits
@@ -17,29 +19,29 @@ bits-length zero c = refl
 bits-length (suc k) c = length-append (bits k (c / 2)) (odd c ∷ []) ∙ (let ih = bits-length k (c / 2) in omega arith)
 
 -- bits k of what k bits spell
-bits-number : (k : ℕ) (l : List Bool) → k ≤ length l → bits k (number k l) ≡ take k l
-unfolding bits number
+bits-number : (k : ℕ) (l : List Bool) → k ≤ length l → bits k (numberIn k l) ≡ take k l
+unfolding bits numberIn
 bits-number zero l h = refl
 bits-number (suc k) l h =
-    let b = digit-le (getD l k false) in
-    let d : (number k l * 2 + digit (getD l k false)) / 2 ≡ number k l = omega arith in
-    let o : odd (number k l * 2 + digit (getD l k false)) ≡ getD l k false = odd-digit (number k l * 2 + digit (getD l k false)) (getD l k false) (omega arith) in
+    let b = bit-le (getD l k false) in
+    let d : (numberIn k l * 2 + bitOf (getD l k false)) / 2 ≡ numberIn k l = omega arith in
+    let o : odd (numberIn k l * 2 + bitOf (getD l k false)) ≡ getD l k false = odd-bit (numberIn k l * 2 + bitOf (getD l k false)) (getD l k false) (omega arith) in
     (λ i. bits k (d i) ++ (o i ∷ [])) ∙ ap (λ x. x ++ (getD l k false ∷ [])) (bits-number k l (omega arith)) ∙ sym (take-suc l k false (omega arith))
 
-number-append : (k : ℕ) (x y : List Bool) → k ≤ length x → number k (x ++ y) ≡ number k x
-unfolding number
+number-append : (k : ℕ) (x y : List Bool) → k ≤ length x → numberIn k (x ++ y) ≡ numberIn k x
+unfolding numberIn
 number-append zero x y h = refl
-number-append (suc k) x y h = λ i. number-append k x y (omega arith) i * 2 + digit (List·getD-append x y false k (omega arith) i)
+number-append (suc k) x y h = λ i. number-append k x y (omega arith) i * 2 + bitOf (List·getD-append x y false k (omega arith) i)
 
 -- what the bits of c spell
-number-bits : (k c : ℕ) → c < 2 ^ k → number k (bits k c) ≡ c
-unfolding bits number
+number-bits : (k c : ℕ) → c < 2 ^ k → numberIn k (bits k c) ≡ c
+unfolding bits numberIn
 number-bits zero c h = omega arith
 number-bits (suc k) c h =
     let p = pow-succ' 2 k in
     let n = bits-length k (c / 2) in
-    let e : number k (bits k (c / 2) ++ (odd c ∷ [])) ≡ c / 2 = number-append k (bits k (c / 2)) (odd c ∷ []) (omega arith) ∙ number-bits k (c / 2) (omega arith) in
-    let f : digit (getD (bits k (c / 2) ++ (odd c ∷ [])) k false) ≡ c % 2 = ap digit (getD-at (bits k (c / 2)) (odd c) [] false k n) ∙ digit-odd c in
+    let e : numberIn k (bits k (c / 2) ++ (odd c ∷ [])) ≡ c / 2 = number-append k (bits k (c / 2)) (odd c ∷ []) (omega arith) ∙ number-bits k (c / 2) (omega arith) in
+    let f : bitOf (getD (bits k (c / 2) ++ (odd c ∷ [])) k false) ≡ c % 2 = ap bitOf (getD-at (bits k (c / 2)) (odd c) [] false k n) ∙ bit-odd c in
     omega arith
 
 pub spell-codes : (w m : ℕ) (a : List Bool) → length a ≡ m * w → spell w (codesIn w m a) ≡ a
@@ -72,19 +74,19 @@ unfolding spell
 spell-length w [] = sym (zero-mul w)
 spell-length w (c ∷ q) = length-append (bits w c) (spell w q) ∙ (let a = bits-length w c in let b = spell-length w q in let s = suc-mul (length q) w in omega arith)
 
-pub codes-at : (w m i : ℕ) (a : List Bool) → i < m → getD (codesIn w m a) i 0 ≡ number w (drop (i * w) a)
+pub codes-at : (w m i : ℕ) (a : List Bool) → i < m → getD (codesIn w m a) i 0 ≡ numberIn w (drop (i * w) a)
 unfolding codesIn
 codes-at w zero i a h = absurd (omega arith)
-codes-at w (suc m) zero a h = ap (λ k. number w (drop k a)) (sym (zero-mul w))
+codes-at w (suc m) zero a h = ap (λ k. numberIn w (drop k a)) (sym (zero-mul w))
 codes-at w (suc m) (suc i) a h =
     let s = suc-mul i w in
     let e : w + i * w ≡ suc i * w = omega arith in
-    codes-at w m i (drop w a) (omega arith) ∙ ap (number w) (drop-drop (i * w) w a) ∙ ap (λ k. number w (drop k a)) e
+    codes-at w m i (drop w a) (omega arith) ∙ ap (numberIn w) (drop-drop (i * w) w a) ∙ ap (λ k. numberIn w (drop k a)) e
 
 -- the variables from s + 1 on spell what the list from s on spells
-pub codeAt-number : (a : List Bool) (s k : ℕ) → codeAt (valueIn a) (s + 1) k ≡ number k (drop s a)
-unfolding codeAt number valueIn
+pub codeAt-number : (a : List Bool) (s k : ℕ) → codeAt (valueIn a) (s + 1) k ≡ numberIn k (drop s a)
+unfolding codeAt numberIn valueIn
 codeAt-number a s zero = refl
 codeAt-number a s (suc k) =
     let e : s + 1 + k - 1 ≡ s + k = omega arith in
-    λ i. codeAt-number a s k i * 2 + digit ((ap (λ n. getD a n false) e ∙ sym (getD-drop s a k false)) i)
+    λ i. codeAt-number a s k i * 2 + bitOf ((ap (λ n. getD a n false) e ∙ sym (getD-drop s a k false)) i)

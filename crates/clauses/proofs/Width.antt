@@ -2,12 +2,13 @@
 use mathlib.Core.Path.{_≡_, refl, sym, subst, _∙_}
 use mathlib.Core.Logic.{⊎-elim}
 use mathlib.Core.Bool.{Bool, true, false, cond}
-use Prim.Native.Nat.{ℕ, zero, suc, _+_, _^_, _≤_, _<_}
+use Prim.Native.Nat.{ℕ, zero, suc, _+_, _*_, _^_, _≤_, _<_}
 use native.Mathlib.Omega.{arith}
-use native.Mathlib.Nat.{eq-or-lt-of-le, pow-succ', add-zero, add-suc, suc-add, add-comm}
+use native.Mathlib.Nat.{eq-or-lt-of-le, pow-succ', add-zero, add-suc, suc-add, add-comm, mul-le-mul}
 use native.Mathlib.Numerals.{add-one}
 use lib.Dec.{leb}
 use borrow.Author.Tests.{leb-true, leb-false}
+use Rattle.channel.specs.Limits.{mostConnections, mostBits, mostVariables}
 use Rattle.channel.specs.Channel.{Job, T}
 use Rattle.clauses.specs.Clauses.{Width, seek, bitsFor, width}
 
@@ -28,6 +29,10 @@ seek-is (suc more) w t s e l = go (leb t (2 ^ w)) refl (seek-is more (suc w) t (
 pub bitsFor-is : (t : ℕ) → Width t (bitsFor t)
 unfolding bitsFor
 bitsFor-is t = seek-is t 1 t (omega arith) (let a = pow-big t in let p = pow-succ' 2 t in rw add-comm (rw add-one (omega arith))) (λ v o g. o)
+
+-- V within its limit
+pub variables-few : (m w : ℕ) → m ≤ mostConnections → w ≤ mostBits → m * w ≤ mostVariables
+variables-few m w a b = mul-le-mul {n₁ = m} {m₁ = w} {n₂ = mostConnections} {m₂ = mostBits} a b
 
 pub width-least : (j : Job) → Width (T j) (width j)
 width-least j = bitsFor-is (T j)

@@ -4,10 +4,10 @@ use mathlib.Core.Bool.{Bool, true, false, _&&_, not, cond}
 use mathlib.Core.List.{List, [], _∷_, _++_, map}
 use Prim.Native.Nat.{ℕ, zero, suc, _+_, _*_, _-_, _/_, _%_, _^_, _≤_}
 use lib.Dec.{ltb, leb, eqb}
-use lib.ListN.{length, getD, drop}
+use lib.ListN.{length}
 use Rattle.channel.specs.Channel.{Job, T, M, Barred, Collide}
 use Rattle.channel.specs.Label.{label, code, codeOf, labelOf}
-use Rattle.dimacs.specs.Clause.{Literal, Clause, valueIn, makesAll}
+use Rattle.dimacs.specs.Clause.{Clause, valueIn, makesAll}
 
 -- what the clauses rest on: how many tracks and connections, which codes are barred for a connection, and on which codes two connections collide.
 -- Connections are counted from 0, tracks are given by their codes
@@ -44,9 +44,9 @@ unfoldable pub bitsFor : ℕ → ℕ
 bitsFor t = seek t 1 t
 
 -- f 0, then f 1, and so on to f (n − 1)
-unfoldable pub each : {A : Type 0} → ℕ → (ℕ → List A) → List A
-each zero f = []
-each (suc n) f = each n f ++ f n
+unfoldable pub joinTo : {A : Type 0} → ℕ → (ℕ → List A) → List A
+joinTo zero f = []
+joinTo (suc n) f = joinTo n f ++ f n
 
 -- x if b, else nothing
 unfoldable pub only : {A : Type 0} → Bool → A → List A
@@ -56,9 +56,6 @@ only false x = []
 -- the lowest bit is 1
 abbrev pub odd : ℕ → Bool
 odd c = eqb (c % 2) 1
-
-abbrev pub digit : Bool → ℕ
-digit b = cond b 1 0
 
 -- the literals that forbid a code of k bits at the variables from v on, bit 1 the highest: plain where the bit is 0 and negated where it is 1
 unfoldable pub forbid : ℕ → ℕ → ℕ → Clause
@@ -75,11 +72,11 @@ module _ (g : Grid) where
 
   -- group 1: for each connection, each code from T to 2 ^ w − 1: one clause forbidding it
   unfoldable pub beyond : List Clause
-  beyond = each (g .connections) (λ i. each (2 ^ widthOf - g .tracks) (λ k. bar widthOf i (g .tracks + k) ∷ []))
+  beyond = joinTo (g .connections) (λ i. joinTo (2 ^ widthOf - g .tracks) (λ k. bar widthOf i (g .tracks + k) ∷ []))
 
   -- group 2: for each connection, each barred track: one clause forbidding its code
   unfoldable pub bars : List Clause
-  bars = each (g .connections) (λ i. each (g .tracks) (λ c. only (g .barred i c) (bar widthOf i c)))
+  bars = joinTo (g .connections) (λ i. joinTo (g .tracks) (λ c. only (g .barred i c) (bar widthOf i c)))
 
   -- two connections, the first before the second, collide on a track that is barred for neither
   abbrev pub meets : ℕ → ℕ → ℕ → Bool
@@ -87,7 +84,7 @@ module _ (g : Grid) where
 
   -- group 3: for two connections in order and each track on which they meet: one clause forbidding both codes together, the first's variables first
   unfoldable pub pairs : List Clause
-  pairs = each (g .connections) (λ h. each (g .connections) (λ i. each (g .tracks) (λ c. only (meets h i c) (bar widthOf h c ++ bar widthOf i c))))
+  pairs = joinTo (g .connections) (λ h. joinTo (g .connections) (λ i. joinTo (g .tracks) (λ c. only (meets h i c) (bar widthOf h c ++ bar widthOf i c))))
 
   -- all of group 1, then all of group 2, then all of group 3
   unfoldable pub clausesOf : List Clause
@@ -125,26 +122,10 @@ unfoldable pub spell : ℕ → List ℕ → List Bool
 spell w [] = []
 spell w (c ∷ q) = bits w c ++ spell w q
 
--- the number that the first k bits of a list spell; the codes of m connections that an assignment spells, w bits each
-unfoldable pub number : ℕ → List Bool → ℕ
-number zero a = 0
-number (suc k) a = number k a * 2 + digit (getD a k false)
-
-unfoldable pub codesIn : ℕ → ℕ → List Bool → List ℕ
-codesIn w zero a = []
-codesIn w (suc m) a = number w a ∷ codesIn w m (drop w a)
-
--- the codes of labels, and the labels of codes
+-- the codes of labels
 abbrev pub codes : List ℕ → List ℕ
 codes q = map codeWith q
-
-abbrev pub labels : List ℕ → List ℕ
-labels q = map labelWith q
 
 -- the assignment that a routing's labels give: their codes, w bits each
 abbrev pub spelled : Job → List ℕ → List Bool
 spelled j q = spell (width j) (codes q)
-
--- and the labels that an assignment gives
-abbrev pub labelsIn : Job → List Bool → List ℕ
-labelsIn j a = labels (codesIn (width j) (M j) a)

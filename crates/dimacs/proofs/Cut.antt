@@ -8,8 +8,11 @@ use native.Mathlib.Omega.{arith}
 use lib.Dec.{eqb}
 use lib.ListN.{take, drop, take-append-drop}
 use borrow.Author.Tests.{eqb-true, eq-eqb}
-use Rattle.dimacs.specs.Reply.{onto, split, kept, lines, same, every, Word, stop, lit, isNumber, nought, isLiteral, literal, unsigned, negative, decimal, Status, satisfiable, unsatisfiable, unknown, text, Line, bad, quiet, says, gives, statusWord, statusLine, valueLine, tagged, lineOf, firstBad, statuses, literals, closed, Parsed, Refused6, Unsat, Unsure, Sat, settle, placed, judged, answerOf, accepts}
-use Rattle.dimacs.proofs.Bools.{both}
+use Rattle.facts.specs.Same.{same}
+use Rattle.facts.proofs.Same.{same-true}
+use Rattle.facts.proofs.Bools.{both}
+use Rattle.dimacs.specs.Reply.{onto, split, kept, lines, every, Word, stop, lit, isNumber, nought, isLiteral, literal, unsigned, negative, decimal, Status, satisfiable, unsatisfiable, unknown, text, Line, bad, quiet, says, gives, statusWord, statusLine, valueLine, tagged, lineOf, statuses, literals, closed}
+use Rattle.dimacs.specs.Decision.{firstBad, Parsed, Refused6, Unsat, Unsure, Sat, settle, badFirst, judged, answerOf, accepts}
 
 -- a list and a longer one: they go along but for the last of the first
 pub data Along {A : Type 0} (R : A → A → Type 0) : List A → List A → Type 0 where
@@ -17,7 +20,7 @@ pub data Along {A : Type 0} (R : A → A → Type 0) : List A → List A → Typ
   more : {xs ys : List A} (x : A) → Along R xs ys → Along R (x ∷ xs) (x ∷ ys)
 
 -- the second is the first and something after it
-abbrev Begins : List ℕ → List ℕ → Type 0
+abbrev pub Begins : List ℕ → List ℕ → Type 0
 Begins l m = (u : List ℕ) × (m ≡ l ++ u)
 
 pub map-along : {A B : Type 0} {R : A → A → Type 0} (S : B → B → Type 0) (f : A → B) → ((x y : A) → R x y → S (f x) (f y)) → {xs ys : List A} → Along R xs ys → Along S (map f xs) (map f ys)
@@ -118,18 +121,6 @@ starts-append : (l u : List ℕ) → starts l (l ++ u) ≡ true
 unfolding starts
 starts-append [] u = refl
 starts-append (b ∷ l) u = simp (eq-eqb b b refl) (starts-append l u)
-
--- the same bytes are the same text
-pub same-true : (l m : List ℕ) → same l m ≡ true → l ≡ m
-unfolding same
-same-true [] [] h = refl
-same-true [] (c ∷ m) h = absurd (false≢true h)
-same-true (b ∷ l) [] h = absurd (false≢true h)
-same-true (b ∷ l) (c ∷ m) h =
-    let g = both _ _ h in
-    let e = eqb-true b c (g .0) in
-    let f = same-true l m (g .1) in
-    cc
 
 apart : (s s′ : Status) → starts (text s) (text s′) ≡ true → s ≡ s′
 unfolding starts text
@@ -278,65 +269,45 @@ settle-same (and-then unsatisfiable (nothing (y ∷ ys))) g h k = absurd (false�
 settle-same (and-then unknown (nothing (y ∷ ys))) g h k = absurd (false≢true k)
 settle-same (and-then x (and-then y f)) g h k = refl
 
-placed-says : (n : ℕ) (a : Parsed) → accepts (placed n a) ≡ true → (n ≡ 0) × (accepts a ≡ true) × (placed n a ≡ a)
-unfolding placed accepts
-placed-says zero a h = (refl, h, refl)
-placed-says (suc n) a h = absurd (false≢true h)
+badFirst-says : (n : ℕ) (a : Parsed) → accepts (badFirst n a) ≡ true → (n ≡ 0) × (accepts a ≡ true) × (badFirst n a ≡ a)
+unfolding badFirst accepts
+badFirst-says zero a h = (refl, h, refl)
+badFirst-says (suc n) a h = absurd (false≢true h)
 
 judged-same : {ks ms : List Line} → Along Grows ks ms → accepts (judged ks) ≡ true → accepts (judged ms) ≡ true → judged ks ≡ judged ms
 unfolding judged
 judged-same {ks} {ms} a h k =
-    let f = placed-says (firstBad 1 ks) (settle (statuses ks) (literals ks)) h in
-    let g = placed-says (firstBad 1 ms) (settle (statuses ms) (literals ms)) k in
+    let f = badFirst-says (firstBad 1 ks) (settle (statuses ks) (literals ks)) h in
+    let g = badFirst-says (firstBad 1 ms) (settle (statuses ms) (literals ms)) k in
     let c = comes a 0 0 (f .0) (g .0) in
     f .2 ∙ settle-same (c .said) (c .given) (f .1) (g .1) ∙ sym (g .2)
 
+-- lines that decide alike
+record Alike (i : ℕ) (ks ms : List Line) : Type 0 where
+  bads : firstBad i ks ≡ firstBad i ms
+  said : statuses ks ≡ statuses ms
+  given : literals ks ≡ literals ms
+
 -- an empty rest is no line, and as one it would change nothing
-kept-bad : (i : ℕ) (ls : List (List ℕ)) → firstBad i (map lineOf (kept ls)) ≡ firstBad i (map lineOf ls)
-unfolding firstBad kept lineOf
-kept-bad i [] = refl
-kept-bad i ([] ∷ []) = refl
-kept-bad i ((b ∷ l) ∷ []) = refl
-kept-bad i (l ∷ m ∷ ls) = bad-next (lineOf l) i (λ j. kept-bad j (m ∷ ls))
+kept-alike : (i : ℕ) (ls : List (List ℕ)) → Alike i (map lineOf (kept ls)) (map lineOf ls)
+unfolding firstBad statuses literals kept lineOf
+kept-alike i [] = record { bads = refl; said = refl; given = refl }
+kept-alike i ([] ∷ []) = record { bads = refl; said = refl; given = refl }
+kept-alike i ((b ∷ l) ∷ []) = record { bads = refl; said = refl; given = refl }
+kept-alike i (l ∷ m ∷ ls) = go (lineOf l) (kept-alike (suc i) (m ∷ ls))
   where
-    bad-next : (x : Line) (i : ℕ) → ((j : ℕ) → firstBad j (map lineOf (kept (m ∷ ls))) ≡ firstBad j (map lineOf (m ∷ ls))) → firstBad i (x ∷ map lineOf (kept (m ∷ ls))) ≡ firstBad i (x ∷ map lineOf (m ∷ ls))
-    bad-next bad i h = refl
-    bad-next quiet i h = h (suc i)
-    bad-next (says s) i h = h (suc i)
-    bad-next (gives xs) i h = h (suc i)
-
-kept-statuses : (ls : List (List ℕ)) → statuses (map lineOf (kept ls)) ≡ statuses (map lineOf ls)
-unfolding statuses kept lineOf
-kept-statuses [] = refl
-kept-statuses ([] ∷ []) = refl
-kept-statuses ((b ∷ l) ∷ []) = refl
-kept-statuses (l ∷ m ∷ ls) = go (lineOf l) (kept-statuses (m ∷ ls))
-  where
-    go : (x : Line) → statuses (map lineOf (kept (m ∷ ls))) ≡ statuses (map lineOf (m ∷ ls)) → statuses (x ∷ map lineOf (kept (m ∷ ls))) ≡ statuses (x ∷ map lineOf (m ∷ ls))
-    go bad h = h
-    go quiet h = h
-    go (says s) h = ap (λ z. s ∷ z) h
-    go (gives xs) h = h
-
-kept-literals : (ls : List (List ℕ)) → literals (map lineOf (kept ls)) ≡ literals (map lineOf ls)
-unfolding literals kept lineOf
-kept-literals [] = refl
-kept-literals ([] ∷ []) = refl
-kept-literals ((b ∷ l) ∷ []) = refl
-kept-literals (l ∷ m ∷ ls) = go (lineOf l) (kept-literals (m ∷ ls))
-  where
-    go : (x : Line) → literals (map lineOf (kept (m ∷ ls))) ≡ literals (map lineOf (m ∷ ls)) → literals (x ∷ map lineOf (kept (m ∷ ls))) ≡ literals (x ∷ map lineOf (m ∷ ls))
-    go bad h = h
-    go quiet h = h
-    go (says s) h = h
-    go (gives xs) h = ap (λ z. xs ++ z) h
+    go : (k : Line) {ks ms : List Line} → Alike (suc i) ks ms → Alike i (k ∷ ks) (k ∷ ms)
+    go bad h = record { bads = refl; said = h .said; given = h .given }
+    go quiet h = record { bads = h .bads; said = h .said; given = h .given }
+    go (says s) h = record { bads = h .bads; said = ap (λ z. s ∷ z) (h .said); given = h .given }
+    go (gives xs) h = record { bads = h .bads; said = h .said; given = ap (λ z. xs ++ z) (h .given) }
 
 pub answer-split : (t : List ℕ) → answerOf t ≡ judged (map lineOf (split 10 t))
 unfolding answerOf judged lines
-answer-split t = λ i. placed (kept-bad 1 (split 10 t) i) (settle (kept-statuses (split 10 t) i) (kept-literals (split 10 t) i))
+answer-split t = let k = kept-alike 1 (split 10 t) in (λ i. badFirst (k .bads i) (settle (k .said i) (k .given i)))
 
 -- a text and the text with something after it, both not refused: one answer
-pub answer-same : (p q : List ℕ) → accepts (answerOf p) ≡ true → accepts (answerOf (p ++ q)) ≡ true → answerOf p ≡ answerOf (p ++ q)
+answer-same : (p q : List ℕ) → accepts (answerOf p) ≡ true → accepts (answerOf (p ++ q)) ≡ true → answerOf p ≡ answerOf (p ++ q)
 answer-same p q h k =
     let e = answer-split p in
     let f = answer-split (p ++ q) in
@@ -366,5 +337,5 @@ cut t n a e h = go (refuses-or (answerOf (take n t)))
 
 -- the empty reply
 pub empty-refused : answerOf [] ≡ Refused6 0
-unfolding answerOf judged lines split kept firstBad statuses literals settle placed
+unfolding answerOf judged lines split kept firstBad statuses literals settle badFirst
 empty-refused = refl

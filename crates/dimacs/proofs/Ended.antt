@@ -5,7 +5,8 @@ use mathlib.Core.List.{List, [], _∷_, map}
 use Prim.Native.Nat.{ℕ, zero, suc, _+_, _≤_, _<_}
 use native.Mathlib.Omega.{arith}
 use lib.ListN.{length, length-map, take, drop, take-append-drop}
-use Rattle.dimacs.specs.Reply.{Word, Status, satisfiable, unsatisfiable, unknown, Line, bad, quiet, says, gives, split, lineOf, firstBad, statuses, literals, closed, Parsed, Refused6, Sat, settle, placed, judged, answerOf, Ended}
+use Rattle.dimacs.specs.Reply.{Word, Status, satisfiable, unsatisfiable, unknown, Line, bad, quiet, says, gives, split, lineOf, statuses, literals, closed, Ended}
+use Rattle.dimacs.specs.Decision.{firstBad, Parsed, Refused6, Sat, settle, badFirst, judged, answerOf}
 use Rattle.dimacs.proofs.Cut.{Along, last, more, Grows, map-along, line-grows, split-along, answer-split}
 
 -- counted from i + 1, the first bad line is at i + 1 or behind it
@@ -40,16 +41,16 @@ settle-place (unknown ∷ []) [] p h = cc
 settle-place (unknown ∷ []) (x ∷ xs) p h = cc
 settle-place (s ∷ s′ ∷ ss) xs p h = cc
 
-placed-bad : (n p : ℕ) (ss : List Status) (xs : List Word) → placed n (settle ss xs) ≡ Refused6 (suc p) → n ≡ suc p
-unfolding placed
-placed-bad zero p ss xs h = let e = settle-place ss xs (suc p) h in omega arith
-placed-bad (suc n) p ss xs h = cc
+first-bad : (n p : ℕ) (ss : List Status) (xs : List Word) → badFirst n (settle ss xs) ≡ Refused6 (suc p) → n ≡ suc p
+unfolding badFirst
+first-bad zero p ss xs h = let e = settle-place ss xs (suc p) h in omega arith
+first-bad (suc n) p ss xs h = cc
 
 pub bad-line : (t : List ℕ) (k p : ℕ) → answerOf t ≡ Refused6 (suc p) → Ended (take k t) (suc p) → answerOf (take k t) ≡ Refused6 (suc p)
-unfolding judged placed
+unfolding judged badFirst
 bad-line t k p h l =
     let a : Along Grows (map lineOf (split 10 (take k t))) (map lineOf (split 10 t)) = subst (λ z. Along Grows (map lineOf (split 10 (take k t))) (map lineOf (split 10 z))) (take-append-drop k t) (map-along Grows lineOf line-grows (split-along 10 (take k t) (drop k t))) in
-    let b = placed-bad _ p _ _ (sym (answer-split t) ∙ h) in
+    let b = first-bad _ p _ _ (sym (answer-split t) ∙ h) in
     let m = length-map (split 10 (take k t)) lineOf in
     let c = along-bad a 0 p b (omega arith) in
-    answer-split (take k t) ∙ ap (λ n. placed n (settle (statuses (map lineOf (split 10 (take k t)))) (literals (map lineOf (split 10 (take k t)))))) c
+    answer-split (take k t) ∙ ap (λ n. badFirst n (settle (statuses (map lineOf (split 10 (take k t)))) (literals (map lineOf (split 10 (take k t)))))) c

@@ -8,17 +8,18 @@ use Prim.Native.Nat.{ℕ, zero, suc, _+_, _≤_}
 use native.Mathlib.Omega.{arith}
 use lib.ListN.{length, length-map}
 use borrow.Author.Tests.{eq-eqb, ne-eqb}
-use Rattle.refusals.specs.Table.{line, FirstBroken, Refuses, Passes}
+use Rattle.refusals.specs.Table.{FirstBroken, Searched, Refuses, Passes}
 use Rattle.refusals.proofs.Laws.{behind-row, behind-or, refuses-row, refuses-left, refuses-right, passes-row, passes-or, searched-all, searched-broken, printed-order}
-use Rattle.dimacs.specs.Clause.{Literal, Clause, firstFalse}
-use Rattle.dimacs.specs.Reply.{Word, stop, lit, Status, satisfiable, unsatisfiable, unknown, firstBad, statuses, literals, closed, Parsed, Refused6, Sat, Unsat, Unsure, settle, placed, judged, answerOf, accepts}
-use Rattle.dimacs.specs.Model.{before, variables, firstWrong, allThere, place7, holds, Reply, Refused, Accepted, checked, replied, replyOf}
-use Rattle.dimacs.specs.Refusals.{linesIn, WellFormed, Keeps, Gives, Fits, Missing, MadeTrue, row6, row7, row8, replyRows, Means, is-refused, is-accepted, is-claimed, is-unknown}
-use Rattle.dimacs.proofs.Searches.{bad-searched, false-searched, wrong-searched, all-there, one-missing}
+use Rattle.dimacs.specs.Clause.{Literal, Clause}
+use Rattle.dimacs.specs.Decision.{firstFalse, firstBad, Parsed, Refused6, Sat, Unsat, Unsure, settle, badFirst, judged, answerOf, accepts, firstWrong, allThere, place7, checked, replied, replyOf}
+use Rattle.dimacs.specs.Reply.{Word, stop, lit, Status, satisfiable, unsatisfiable, unknown, statuses, literals, closed}
+use Rattle.dimacs.specs.Model.{beforeNought, variables, among, holds, Reply, Refused, Accepted}
+use Rattle.dimacs.specs.Refusals.{linesIn, WellFormed, Keeps, GivesModel, Fits, Missing, Unfit, MadeTrue, IsModel, row6, row7, row8, replyRows, Means, is-refused, is-accepted, is-claimed, is-unknown}
+use Rattle.dimacs.proofs.Searches.{bad-searched, false-searched, wrong-searched, all-there, one-missing, false-none, true-none}
 
 -- closed words are literals and then `0`
-pub closed-is : (ws : List Word) → closed ws ≡ true → ws ≡ map lit (before ws) ++ (stop ∷ [])
-unfolding closed before
+pub closed-is : (ws : List Word) → closed ws ≡ true → ws ≡ map lit (beforeNought ws) ++ (stop ∷ [])
+unfolding closed beforeNought
 closed-is [] h = absurd (false≢true h)
 closed-is (stop ∷ []) h = refl
 closed-is (stop ∷ w ∷ ws) h = absurd (false≢true h)
@@ -29,10 +30,19 @@ unfolding closed
 is-closed [] = refl
 is-closed (x ∷ xs) = is-closed xs
 
-pub before-is : (xs : List Literal) → before (map lit xs ++ (stop ∷ [])) ≡ xs
-unfolding before
-before-is [] = refl
-before-is (x ∷ xs) = ap (λ z. x ∷ z) (before-is xs)
+pub beforeNought-is : (xs : List Literal) → beforeNought (map lit xs ++ (stop ∷ [])) ≡ xs
+unfolding beforeNought
+beforeNought-is [] = refl
+beforeNought-is (x ∷ xs) = ap (λ z. x ∷ z) (beforeNought-is xs)
+
+-- a text gives one list of literals
+pub gives-one : (t : List ℕ) (xs ys : List Literal) → GivesModel t xs → GivesModel t ys → xs ≡ ys
+gives-one t xs ys g h = sym (beforeNought-is xs) ∙ ap beforeNought (sym (g .value-words) ∙ h .value-words) ∙ beforeNought-is ys
+
+-- a search that finds no place
+searched-none : {Rule : ℕ → Type 0} {r : ℕ} → Searched Rule r → ((k : ℕ) → FirstBroken Rule k → ⊥) → r ≡ 0
+searched-none {r = zero} s n = refl
+searched-none {r = suc k} s n = absurd (n (suc k) (searched-broken s (λ e. absurd (omega arith))))
 
 -- the rules on `s`, `v` and `0`, by what they come to
 abbrev pub Settled : List Status → List Word → Parsed → Type 0
@@ -96,12 +106,8 @@ module _ (n : ℕ) (cs : List Clause) (t : List ℕ) where
   abbrev ws : List Word
   ws = literals (linesIn t)
 
-  line-6 : (k : ℕ) → k ≡ 7 ⊎ k ≡ 8 → line 6 ≤ line k
-  line-6 k (inl e) = rw e (omega (arith, printed-order))
-  line-6 k (inr e) = rw e (omega (arith, printed-order))
-
   by-6 : (p : ℕ) → row6 t 6 p → Refuses (replyRows n cs t) 6 p
-  by-6 p h = refuses-left (refuses-row 6 p (h .1)) (behind-or (behind-row (line-6 7 (inl refl))) (behind-row (line-6 8 (inr refl))))
+  by-6 p h = refuses-left (refuses-row 6 p (h .1)) (behind-or (behind-row (omega (arith, printed-order))) (behind-row (omega (arith, printed-order))))
 
   by-7 : (p : ℕ) → Passes (row6 t) → row7 n t 7 p → Refuses (replyRows n cs t) 7 p
   by-7 p q h = refuses-right q (refuses-left (refuses-row 7 p (h .1)) (behind-row (omega (arith, printed-order))))
@@ -109,74 +115,94 @@ module _ (n : ℕ) (cs : List Clause) (t : List ℕ) where
   by-8 : (p : ℕ) → Passes (row6 t) → Passes (row7 n t) → row8 cs t 8 p → Refuses (replyRows n cs t) 8 p
   by-8 p q r h = refuses-right q (refuses-right r (refuses-row 8 p (h .1)))
 
-  module _ (wf : (i : ℕ) → WellFormed t i) where
-    pass-6 : Keeps ss ws → Passes (row6 t)
-    pass-6 k = passes-row 6 go
+  pass-6 : ((i : ℕ) → WellFormed t i) → Keeps ss ws → Passes (row6 t)
+  pass-6 wf k = passes-row 6 go
+    where
+      go : (p : ℕ) → FirstBroken (WellFormed t) p ⊎ ((((i : ℕ) → WellFormed t i) × (Keeps ss ws → ⊥)) × (p ≡ 0)) → ⊥
+      go p (inl b) = b .broken (wf (b .index))
+      go p (inr b) = b .0 .1 k
+
+  -- without `s SATISFIABLE` neither 7 nor 8 holds
+  pass-all : ((i : ℕ) → WellFormed t i) → Keeps ss ws → (ss ≡ satisfiable ∷ [] → ⊥) → Passes (replyRows n cs t)
+  pass-all wf k no-model = passes-or (pass-6 wf k) (passes-or (passes-row 7 (λ p h. no-model (h .1 .status-lines))) (passes-row 8 (λ p h. no-model (h .1 .status-lines))))
+
+  module _ (xs : List Literal) (g : GivesModel t xs) where
+    pass-6′ : Passes (row6 t)
+    pass-6′ = pass-6 (g .well-formed) (inl (g .status-lines, (xs, g .value-words)))
+
+    pass-7 : ((i : ℕ) → Fits n (variables xs) i) → (Missing n (variables xs) → ⊥) → Passes (row7 n t)
+    pass-7 f m = passes-row 7 (λ p h. go p (subst (λ z. Unfit n z p) (gives-one t (h .0) xs (h .1) g) (h .2)))
       where
-        go : (p : ℕ) → FirstBroken (WellFormed t) p ⊎ ((((i : ℕ) → WellFormed t i) × (Keeps ss ws → ⊥)) × (p ≡ 0)) → ⊥
-        go p (inl b) = b .broken (wf (b .index))
-        go p (inr b) = b .0 .1 k
+        go : (p : ℕ) → Unfit n xs p → ⊥
+        go p (inl b) = b .broken (f (b .index))
+        go p (inr b) = m (b .1)
 
-    -- without `s SATISFIABLE` neither 7 nor 8 holds
-    module _ (k : Keeps ss ws) (no-model : ss ≡ satisfiable ∷ [] → ⊥) where
-      pass-all : Passes (replyRows n cs t)
-      pass-all = passes-or (pass-6 k) (passes-or (passes-row 7 (λ p h. no-model (h .1 .status-lines))) (passes-row 8 (λ p h. no-model (h .1 .status-lines))))
+    pass-8 : ((i : ℕ) → MadeTrue (holds xs) cs i) → Passes (row8 cs t)
+    pass-8 f = passes-row 8 (λ p h. h .2 .broken (subst (λ z. MadeTrue (holds z) cs (h .2 .index)) (gives-one t xs (h .0) g (h .1)) (f (h .2 .index))))
 
-    module _ (s-is : ss ≡ satisfiable ∷ []) (xs : List Literal) (w-is : ws ≡ map lit xs ++ (stop ∷ [])) where
-      gives-xs : Gives t xs
-      gives-xs = record { well-formed = wf; status-lines = s-is; value-words = w-is }
+    not-missing : ((v : ℕ) → 1 ≤ v → v ≤ n → among v (variables xs) ≡ true) → Missing n (variables xs) → ⊥
+    not-missing f m = true≢false (sym (f (m .0) (m .1) (m .2)) ∙ m .3)
 
-      pass-6′ : Passes (row6 t)
-      pass-6′ = pass-6 (inl (s-is, (xs, w-is)))
+    -- a model is refused by no row
+    pub model-passes : IsModel n cs xs → Passes (replyRows n cs t)
+    model-passes m = passes-or pass-6′ (passes-or (pass-7 (m .fits) (not-missing (m .each))) (pass-8 (searched-all (false-searched (holds xs) cs) (true-none (holds xs) 1 cs (m .all)))))
 
-      -- the literals are these and no others
-      only : (ys : List Literal) → Gives t ys → ys ≡ xs
-      only ys g = sym (before-is ys) ∙ ap before (sym (g .value-words) ∙ w-is) ∙ before-is xs
+    -- and what is refused by no row is one: none of the three searches finds a place
+    module _ (p : Passes (replyRows n cs t)) where
+      pub none-wrong : firstWrong n [] 1 (variables xs) ≡ 0
+      none-wrong = searched-none (wrong-searched n (variables xs)) (λ k b. p 7 k (inr (inl (refl, (xs, g, inl b)))))
 
-      checked-means : Means n cs t (checked n cs xs)
-      checked-means = go7 (firstWrong n [] 1 (variables xs)) refl (allThere n (variables xs)) refl
+      pub none-missing : allThere n (variables xs) ≡ true
+      none-missing = go (allThere n (variables xs)) refl
         where
-          at : {a b : Reply} → a ≡ b → Means n cs t b → Means n cs t a
-          at e m = subst (Means n cs t) (sym e) m
+          go : (a : Bool) → allThere n (variables xs) ≡ a → a ≡ true
+          go true e = refl
+          go false e = absurd (p 7 (length xs + 1) (inr (inl (refl, (xs, g, inr (searched-all (wrong-searched n (variables xs)) none-wrong, one-missing n (variables xs) e, refl))))))
 
-          go8 : Passes (row7 n t) → place7 n (variables xs) ≡ 0 → (f : ℕ) → firstFalse (holds xs) 1 cs ≡ f → Means n cs t (checked n cs xs)
-          go8 q e zero g =
-              at (checked-none n cs xs e g)
-              (is-accepted xs gives-xs (passes-or pass-6′ (passes-or q (passes-row 8 (λ p h. h .2 .broken (subst (λ z. MadeTrue (holds z) cs (h .2 .index)) (sym (only (h .0) (h .1))) (searched-all (false-searched (holds xs) cs) g (h .2 .index))))))))
-          go8 q e (suc f) g =
-              let z : firstFalse (holds xs) 1 cs ≡ 0 → ⊥ = λ d. absurd (omega (arith, g, d)) in
-              at (checked-8 n cs xs e z) (is-refused 8 _ (by-8 _ pass-6′ q (refl, (xs, gives-xs, searched-broken (false-searched (holds xs) cs) z))))
+      pub passed-model : IsModel n cs xs
+      passed-model =
+          record {
+            fits = searched-all (wrong-searched n (variables xs)) none-wrong;
+            each = all-there n (variables xs) none-missing;
+            all = false-none (holds xs) 0 cs (searched-none (false-searched (holds xs) cs) (λ k b. p 8 k (inr (inr (refl, (xs, g, b))))));
+          }
 
-          go7 : (w : ℕ) → firstWrong n [] 1 (variables xs) ≡ w → (a : Bool) → allThere n (variables xs) ≡ a → Means n cs t (checked n cs xs)
-          go7 (suc w) e a f =
-              let z : firstWrong n [] 1 (variables xs) ≡ 0 → ⊥ = λ d. absurd (omega (arith, e, d)) in
-              at (checked-7 n cs xs _ (place7-wrong n (variables xs) z) z) (is-refused 7 _ (by-7 _ pass-6′ (refl, (xs, gives-xs, inl (searched-broken (wrong-searched n (variables xs)) z)))))
-          go7 zero e false f =
-              at (checked-7 n cs xs _ (place7-missing n (variables xs) e f) (λ d. absurd (omega (arith, d))))
-              (is-refused 7 _ (by-7 _ pass-6′ (refl, (xs, gives-xs, inr (searched-all (wrong-searched n (variables xs)) e, one-missing n (variables xs) f, ap (λ k. k + 1) (length-map xs (λ x. x .variable)))))))
-          go7 zero e true f = go8 (passes-row 7 pass) (place7-none n (variables xs) e f) (firstFalse (holds xs) 1 cs) refl
-            where
-              refute : (p : ℕ) → FirstBroken (Fits n (variables xs)) p ⊎ (((i : ℕ) → Fits n (variables xs) i) × Missing n (variables xs) × (p ≡ length xs + 1)) → ⊥
-              refute p (inl b) = b .broken (searched-all (wrong-searched n (variables xs)) e (b .index))
-              refute p (inr b) = let m = b .1 in true≢false (sym (all-there n (variables xs) f (m .0) (m .1) (m .2)) ∙ m .3)
+    checked-means : Means n cs t (checked n cs xs)
+    checked-means = go7 (firstWrong n [] 1 (variables xs)) refl (allThere n (variables xs)) refl
+      where
+        at : {a b : Reply} → a ≡ b → Means n cs t b → Means n cs t a
+        at e m = subst (Means n cs t) (sym e) m
 
-              pass : (p : ℕ) → (ys : List Literal) × Gives t ys × (FirstBroken (Fits n (variables ys)) p ⊎ (((i : ℕ) → Fits n (variables ys) i) × Missing n (variables ys) × (p ≡ length ys + 1))) → ⊥
-              pass p h = refute p (subst (λ z. FirstBroken (Fits n (variables z)) p ⊎ (((i : ℕ) → Fits n (variables z) i) × Missing n (variables z) × (p ≡ length z + 1))) (only (h .0) (h .1)) (h .2))
+        go8 : Passes (row7 n t) → place7 n (variables xs) ≡ 0 → (f : ℕ) → firstFalse (holds xs) 1 cs ≡ f → Means n cs t (checked n cs xs)
+        go8 q e zero f = at (checked-none n cs xs e f) (is-accepted xs g (passes-or pass-6′ (passes-or q (pass-8 (searched-all (false-searched (holds xs) cs) f)))))
+        go8 q e (suc k) f =
+            let z : firstFalse (holds xs) 1 cs ≡ 0 → ⊥ = λ d. absurd (omega (arith, f, d)) in
+            at (checked-8 n cs xs e z) (is-refused 8 _ (by-8 _ pass-6′ q (refl, (xs, g, searched-broken (false-searched (holds xs) cs) z))))
 
+        go7 : (w : ℕ) → firstWrong n [] 1 (variables xs) ≡ w → (a : Bool) → allThere n (variables xs) ≡ a → Means n cs t (checked n cs xs)
+        go7 (suc w) e a f =
+            let z : firstWrong n [] 1 (variables xs) ≡ 0 → ⊥ = λ d. absurd (omega (arith, e, d)) in
+            at (checked-7 n cs xs _ (place7-wrong n (variables xs) z) z) (is-refused 7 _ (by-7 _ pass-6′ (refl, (xs, g, inl (searched-broken (wrong-searched n (variables xs)) z)))))
+        go7 zero e false f =
+            at (checked-7 n cs xs _ (place7-missing n (variables xs) e f) (λ d. absurd (omega (arith, d))))
+            (is-refused 7 _ (by-7 _ pass-6′ (refl, (xs, g, inr (searched-all (wrong-searched n (variables xs)) e, one-missing n (variables xs) f, ap (λ k. k + 1) (length-map xs (λ x. x .variable)))))))
+        go7 zero e true f = go8 (pass-7 (searched-all (wrong-searched n (variables xs)) e) (not-missing (all-there n (variables xs) f))) (place7-none n (variables xs) e f) (firstFalse (holds xs) 1 cs) refl
+
+  module _ (wf : (i : ℕ) → WellFormed t i) where
     settled-means : (a : Parsed) → settle ss ws ≡ a → Settled ss ws a → Means n cs t (replied n cs a)
     unfolding replied accepts
     settled-means (Refused6 p) e z =
         subst (λ q. Means n cs t (Refused 6 q)) (sym z)
         (is-refused 6 0 (by-6 0 (refl, inr ((wf, λ k. false≢true (sym (ap accepts e) ∙ keeps-accepts ss ws k)), refl))))
-    settled-means (Sat zs) e h = checked-means (h .0) (before zs) (h .1 ∙ closed-is zs (h .2))
-    settled-means Unsat e h = is-claimed (record { well-formed = wf; status-lines = h .0; value-words = h .1 }) (pass-all (inr (inl (h .0), h .1)) (λ d. let z : _≡_ {A = ℕ} 0 1 = cc in absurd (omega arith)))
-    settled-means Unsure e h = is-unknown (record { well-formed = wf; status-lines = h .0; value-words = h .1 }) (pass-all (inr (inr (h .0), h .1)) (λ d. let z : _≡_ {A = ℕ} 0 1 = cc in absurd (omega arith)))
+    settled-means (Sat zs) e h = checked-means (beforeNought zs) (record { well-formed = wf; status-lines = h .0; value-words = h .1 ∙ closed-is zs (h .2) })
+    settled-means Unsat e h = is-claimed (record { well-formed = wf; status-lines = h .0; value-words = h .1 }) (pass-all wf (inr (inl (h .0), h .1)) (λ d. let z : _≡_ {A = ℕ} 0 1 = cc in absurd (omega arith)))
+    settled-means Unsure e h = is-unknown (record { well-formed = wf; status-lines = h .0; value-words = h .1 }) (pass-all wf (inr (inr (h .0), h .1)) (λ d. let z : _≡_ {A = ℕ} 0 1 = cc in absurd (omega arith)))
 
   -- THE MEANING OF AN ANSWER
   pub reply-means : Means n cs t (replyOf n cs t)
-  unfolding replyOf answerOf judged placed replied
+  unfolding replyOf answerOf judged badFirst replied
   reply-means = go (firstBad 1 (linesIn t)) refl
     where
-      go : (b : ℕ) → firstBad 1 (linesIn t) ≡ b → Means n cs t (replied n cs (placed b (settle ss ws)))
+      go : (b : ℕ) → firstBad 1 (linesIn t) ≡ b → Means n cs t (replied n cs (badFirst b (settle ss ws)))
       go zero e = settled-means (searched-all (bad-searched (linesIn t)) e) (settle ss ws) refl (settled ss ws)
       go (suc b) e = is-refused 6 (suc b) (by-6 (suc b) (refl, inl (subst (FirstBroken (WellFormed t)) e (searched-broken (bad-searched (linesIn t)) (λ d. absurd (omega (arith, e, d)))))))

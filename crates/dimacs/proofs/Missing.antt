@@ -7,9 +7,10 @@ use native.Mathlib.Omega.{arith}
 use lib.Dec.{eqb, leb, ltb, leb·suc-suc}
 use lib.ListN.{length}
 use borrow.Author.Tests.{eqb-true, eqb-false, eq-eqb, le-leb, lt-leb, leb-true, leb-false, ltb-false}
+use Rattle.facts.proofs.Bools.{both, or-both}
 use Rattle.dimacs.specs.Reply.{every}
-use Rattle.dimacs.specs.Model.{among, firstWrong, allThere}
-use Rattle.dimacs.proofs.Bools.{both, either-false}
+use Rattle.dimacs.specs.Model.{among}
+use Rattle.dimacs.specs.Decision.{firstWrong, allThere}
 
 -- all different, and within 1 to n
 data Apart (n : ℕ) : List ℕ → Type 0 where
@@ -82,7 +83,7 @@ first-right n i seen v vs = go (ltb n v) refl (among v seen) refl
 unseen : (n i : ℕ) (seen vs : List ℕ) → firstWrong n seen (suc i) vs ≡ 0 → (u : ℕ) → among u seen ≡ true → among u vs ≡ false
 unfolding among
 unseen n i seen [] h u m = refl
-unseen n i seen (v ∷ vs) h u m = let g = first-right n i seen v vs h in either-false (eqb u v) (among u vs) (differs (eqb u v) refl (g .1)) (unseen n (suc i) (v ∷ seen) vs (g .2) u (or-right (eqb u v) m))
+unseen n i seen (v ∷ vs) h u m = let g = first-right n i seen v vs h in or-both (differs (eqb u v) refl (g .1)) (unseen n (suc i) (v ∷ seen) vs (g .2) u (or-right (eqb u v) m))
   where
     differs : (x : Bool) → eqb u v ≡ x → among v seen ≡ false → x ≡ false
     differs true e f = absurd (true≢false (sym (subst (λ z. among z seen ≡ true) (eqb-true u v e) m) ∙ f))

@@ -8,19 +8,20 @@ use native.Mathlib.Omega.{arith}
 use lib.Dec.{eqb, leb, ltb}
 use lib.ListN.{length, length-append}
 use borrow.Author.Tests.{le-leb, leb-true, ltb-true, ltb-false}
-use Rattle.text.specs.Text.{digits, pick}
+use Rattle.facts.proofs.Bools.{and-both, both, or-both}
+use Rattle.text.specs.Text.{digits}
 use Rattle.text.proofs.Writing.{digits-small}
 use Rattle.dimacs.specs.Clause.{Literal, Clause, within, withinAll}
-use Rattle.dimacs.specs.Reply.{split, onto, kept, lines, every, digit, decimal, stop, lit, nought, isLiteral, literal}
+use Rattle.dimacs.specs.Reply.{split, onto, kept, lines, every, isDigit, decimal, stop, lit, nought, isLiteral, literal}
 use Rattle.dimacs.specs.Forms.{IsLiteral, a-nought, a-plain, a-negated}
-use Rattle.dimacs.specs.Model.{before}
-use Rattle.dimacs.specs.Lines.{threeDigits, literalText, literalsText, clauseLine, clauseText, clausesText, pcnf, headerLine, headerText, clauseIn, clausesIn, tenDigits, ReadsBack}
-use Rattle.dimacs.proofs.Bools.{both, both-true, either-false}
+use Rattle.dimacs.specs.Model.{beforeNought}
+use Rattle.dimacs.specs.Lines.{threeDigits, literalText, literalsText, clauseLine, clauseText, clausesText, pcnf, headerText, clauseIn, clausesIn}
+use Rattle.dimacs.specs.ReadBack.{headerLine, tenDigits, ReadsBack}
 use Rattle.dimacs.proofs.Words.{has, has-append, digits-free, literal-is, literal-free, split-end, split-at, split-cons}
-use Rattle.dimacs.proofs.Meaning.{before-is}
+use Rattle.dimacs.proofs.Meaning.{beforeNought-is}
 
 -- the numbers of at most k + 1 digits are below this
-unfoldable pub below : ℕ → ℕ
+below : ℕ → ℕ
 below zero = 10
 below (suc k) = below k * 10
 
@@ -29,35 +30,35 @@ unfolding decimal
 decimal-more n [] b = refl
 decimal-more n (c ∷ w) b = decimal-more (n * 10 + (c - 48)) w b
 
-every-more : (w : List ℕ) (b : ℕ) → every digit w ≡ true → digit b ≡ true → every digit (w ++ (b ∷ [])) ≡ true
+every-more : (w : List ℕ) (b : ℕ) → every isDigit w ≡ true → isDigit b ≡ true → every isDigit (w ++ (b ∷ [])) ≡ true
 unfolding every
-every-more [] b h k = both-true (digit b) true k refl
-every-more (c ∷ w) b h k = let g = both (digit c) (every digit w) h in both-true (digit c) (every digit (w ++ (b ∷ []))) (g .0) (every-more w b (g .1) k)
+every-more [] b h k = and-both k refl
+every-more (c ∷ w) b h k = let g = both (isDigit c) (every isDigit w) h in and-both (g .0) (every-more w b (g .1) k)
 
-last-is-digit : (n : ℕ) → digit (48 + n % 10) ≡ true
-last-is-digit n = both-true _ _ (le-leb 48 (48 + n % 10) (omega arith)) (le-leb (48 + n % 10) 57 (omega arith))
+last-is-digit : (n : ℕ) → isDigit (48 + n % 10) ≡ true
+last-is-digit n = and-both (le-leb 48 (48 + n % 10) (omega arith)) (le-leb (48 + n % 10) 57 (omega arith))
 
 -- a number from 1 on, in decimal: its first digit is not 0, at most k follow, and its value is the number
-pub record Number (k n : ℕ) (l : List ℕ) : Type 0 where
-  pub head : ℕ
-  pub tail : List ℕ
-  pub is : l ≡ head ∷ tail
-  pub leads : (leb 49 head && leb head 57) ≡ true
-  pub few : length tail ≤ k
-  pub digits-all : every digit tail ≡ true
-  pub value : decimal 0 l ≡ n
+record Number (k n : ℕ) (l : List ℕ) : Type 0 where
+  head : ℕ
+  tail : List ℕ
+  is : l ≡ head ∷ tail
+  leads : (leb 49 head && leb head 57) ≡ true
+  few : length tail ≤ k
+  digits-all : every isDigit tail ≡ true
+  value : decimal 0 l ≡ n
 
 one-digit : (k n : ℕ) → 1 ≤ n → n < 10 → Number k n ((48 + n % 10) ∷ [])
 unfolding every decimal
 one-digit k n a b =
-    record { head = 48 + n % 10; tail = []; is = refl; leads = both-true _ _ (le-leb 49 (48 + n % 10) (omega arith)) (le-leb (48 + n % 10) 57 (omega arith)); few = omega arith; digits-all = refl; value = omega arith }
+    record { head = 48 + n % 10; tail = []; is = refl; leads = and-both (le-leb 49 (48 + n % 10) (omega arith)) (le-leb (48 + n % 10) 57 (omega arith)); few = omega arith; digits-all = refl; value = omega arith }
 
-pub digits-number : (k n : ℕ) → 1 ≤ n → n < below k → Number k n (digits k n)
+digits-number : (k n : ℕ) → 1 ≤ n → n < below k → Number k n (digits k n)
 unfolding digits below
 digits-number zero n a b = one-digit zero n a b
 digits-number (suc k) n a b = go (ltb n 10) refl (digits-number k (n / 10))
   where
-    go : (x : Bool) → ltb n 10 ≡ x → (1 ≤ n / 10 → n / 10 < below k → Number k (n / 10) (digits k (n / 10))) → Number (suc k) n (pick x [] (digits k (n / 10)) ++ ((48 + n % 10) ∷ []))
+    go : (x : Bool) → ltb n 10 ≡ x → (1 ≤ n / 10 → n / 10 < below k → Number k (n / 10) (digits k (n / 10))) → Number (suc k) n (cond x [] (digits k (n / 10)) ++ ((48 + n % 10) ∷ []))
     go true e r = one-digit (suc k) n a (ltb-true n 10 e)
     go false e r =
         let g = ltb-false n 10 e in
@@ -73,7 +74,7 @@ digits-number (suc k) n a b = go (ltb n 10) refl (digits-number k (n / 10))
         }
 
 -- a literal's text is that literal
-pub literal-text : (l : Literal) → 1 ≤ l .variable → l .variable ≤ threeDigits → IsLiteral (literalText l) (lit l)
+literal-text : (l : Literal) → 1 ≤ l .variable → l .variable ≤ threeDigits → IsLiteral (literalText l) (lit l)
 unfolding literalText below
 literal-text l a b = go (l .negated) (digits-number 2 (l .variable) a (omega arith))
   where
@@ -110,20 +111,20 @@ clause-words (l ∷ c) h =
 
 texts-read : (c : Clause) → Short c → (map literal (map literalText c ++ (nought ∷ [])) ≡ map lit c ++ (stop ∷ [])) × (every isLiteral (map literalText c ++ (nought ∷ [])) ≡ true)
 unfolding every
-texts-read [] h = let z = literal-is a-nought in (ap (λ w. w ∷ []) (z .1), both-true (isLiteral nought) true (z .0) refl)
+texts-read [] h = let z = literal-is a-nought in (ap (λ w. w ∷ []) (z .1), and-both (z .0) refl)
 texts-read (l ∷ c) h =
     let s = first-short l c h in
     let z = literal-is (literal-text l (s .0) (s .1)) in
     let r = texts-read c (s .2) in
-    ((λ i. z .1 i ∷ r .0 i), both-true (isLiteral (literalText l)) (every isLiteral (map literalText c ++ (nought ∷ []))) (z .0) (r .1))
+    ((λ i. z .1 i ∷ r .0 i), and-both (z .0) (r .1))
 
 -- A CLAUSE LINE READ BACK: its words are literals, and they are those of the clause and then `0`
 pub clause-reads : (c : Clause) → Short c → (map literal (split 32 (clauseLine c)) ≡ map lit c ++ (stop ∷ [])) × (every isLiteral (split 32 (clauseLine c)) ≡ true)
 clause-reads c h = let e = clause-words c h in let r = texts-read c h in (ap (map literal) e ∙ r .0, ap (every isLiteral) e ∙ r .1)
 
-pub clause-in : (c : Clause) → Short c → clauseIn (clauseLine c) ≡ c
+clause-in : (c : Clause) → Short c → clauseIn (clauseLine c) ≡ c
 unfolding clauseIn
-clause-in c h = ap before (clause-reads c h .0) ∙ before-is c
+clause-in c h = ap beforeNought (clause-reads c h .0) ∙ beforeNought-is c
 
 -- a clause line has no LF
 line-free : (c : Clause) → Short c → has 10 (clauseLine c) ≡ false
@@ -165,23 +166,23 @@ clauses-read (c ∷ cs) h =
 pub clause-text-one : (c d : Clause) → Short c → Short d → clauseText c ≡ clauseText d → c ≡ d
 unfolding clausesText withinAll
 clause-text-one c d h k e =
-    let a = clauses-read (c ∷ []) (both-true (within threeDigits c) true h refl) in
-    let b = clauses-read (d ∷ []) (both-true (within threeDigits d) true k refl) in
+    let a = clauses-read (c ∷ []) (and-both h refl) in
+    let b = clauses-read (d ∷ []) (and-both k refl) in
     let f : c ∷ [] ≡ d ∷ [] = sym a ∙ ap (λ t. clausesIn (t ++ [])) e ∙ b in
     cc
 
 -- every byte of a decimal number is a digit
-digits-digits : (k n : ℕ) → every digit (digits k n) ≡ true
+digits-digits : (k n : ℕ) → every isDigit (digits k n) ≡ true
 unfolding digits every
-digits-digits zero n = both-true (digit (48 + n % 10)) true (last-is-digit n) refl
+digits-digits zero n = and-both (last-is-digit n) refl
 digits-digits (suc k) n = go (ltb n 10) (digits-digits k (n / 10))
   where
-    go : (x : Bool) → every digit (digits k (n / 10)) ≡ true → every digit (pick x [] (digits k (n / 10)) ++ ((48 + n % 10) ∷ [])) ≡ true
-    go true h = both-true (digit (48 + n % 10)) true (last-is-digit n) refl
+    go : (x : Bool) → every isDigit (digits k (n / 10)) ≡ true → every isDigit (cond x [] (digits k (n / 10)) ++ ((48 + n % 10) ∷ [])) ≡ true
+    go true h = and-both (last-is-digit n) refl
     go false h = every-more (digits k (n / 10)) (48 + n % 10) h (last-is-digit n)
 
 -- and its value is the number
-pub decimal-digits : (k n : ℕ) → n < below k → decimal 0 (digits k n) ≡ n
+decimal-digits : (k n : ℕ) → n < below k → decimal 0 (digits k n) ≡ n
 unfolding decimal
 decimal-digits k zero h = ap (decimal 0) (digits-small k 0 (omega arith)) ∙ (let e : 0 * 10 + (48 + 0 % 10 - 48) ≡ 0 = omega arith in e)
 decimal-digits k (suc n) h = digits-number k (suc n) (omega arith) h .value
@@ -191,7 +192,7 @@ digits-has s h k n = digits-free s h (digits k n) (digits-digits k n)
 
 cons-free : (s b : ℕ) (w : List ℕ) → eqb b s ≡ false → has s w ≡ false → has s (b ∷ w) ≡ false
 unfolding has
-cons-free s b w h k = either-false (eqb b s) (has s w) h k
+cons-free s b w h k = or-both h k
 
 pcnf-free : has 10 pcnf ≡ false
 unfolding has

@@ -8,9 +8,10 @@ use Prim.Native.Nat.{ℕ, suc}
 use native.Mathlib.Omega.{arith}
 use lib.Dec.{eqb}
 use lib.ListN.{take}
-use Rattle.dimacs.specs.Clause.{Clause, firstFalse}
-use Rattle.dimacs.specs.Reply.{Parsed, Refused6, Sat, Unsat, Unsure, answerOf, accepts, Ended}
-use Rattle.dimacs.specs.Model.{Reply, Refused, Accepted, Claimed, Unknown, before, variables, holds, place7, checked, replied, replyOf}
+use Rattle.dimacs.specs.Clause.{Clause}
+use Rattle.dimacs.specs.Decision.{firstFalse, Parsed, Refused6, Sat, Unsat, Unsure, answerOf, accepts, place7, checked, replied, replyOf}
+use Rattle.dimacs.specs.Reply.{Ended}
+use Rattle.dimacs.specs.Model.{Reply, Refused, Accepted, Claimed, Unknown, beforeNought, variables, holds}
 use Rattle.dimacs.proofs.Cut.{Refuses, refuses-or, cut, empty-refused}
 use Rattle.dimacs.proofs.Ended.{bad-line}
 
@@ -41,9 +42,9 @@ module _ (n : ℕ) (cs : List Clause) where
   six-says : (a : Parsed) (p : ℕ) → replied n cs a ≡ Refused 6 p → a ≡ Refused6 p
   unfolding replied checked
   six-says (Refused6 q) p h = cc
-  six-says (Sat xs) p h = go (eqb (place7 n (variables (before xs))) 0) (eqb (firstFalse (holds (before xs)) 1 cs) 0) h
+  six-says (Sat xs) p h = go (eqb (place7 n (variables (beforeNought xs))) 0) (eqb (firstFalse (holds (beforeNought xs)) 1 cs) 0) h
     where
-      go : (b c : Bool) → cond b (cond c (Accepted (before xs)) (Refused 8 (firstFalse (holds (before xs)) 1 cs))) (Refused 7 (place7 n (variables (before xs)))) ≡ Refused 6 p → Sat xs ≡ Refused6 p
+      go : (b c : Bool) → cond b (cond c (Accepted (beforeNought xs)) (Refused 8 (firstFalse (holds (beforeNought xs)) 1 cs))) (Refused 7 (place7 n (variables (beforeNought xs)))) ≡ Refused 6 p → Sat xs ≡ Refused6 p
       go true true h = cc
       go true false h = let z : _≡_ {A = ℕ} 8 6 = cc in absurd (omega arith)
       go false c h = let z : _≡_ {A = ℕ} 7 6 = cc in absurd (omega arith)

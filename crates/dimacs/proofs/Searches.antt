@@ -8,12 +8,13 @@ use native.Mathlib.Omega.{arith}
 use lib.Dec.{eqb, ltb}
 use lib.ListN.{length, getD, take}
 use borrow.Author.Tests.{eqb-true, eqb-false, ltb-false, ltb-true}
+use Rattle.facts.proofs.Bools.{both, neither, or-both}
 use Rattle.refusals.specs.Table.{Searched, all-keep, one-breaks}
-use Rattle.dimacs.specs.Clause.{Clause, makes, makesAll, firstFalse}
-use Rattle.dimacs.specs.Reply.{Line, bad, quiet, says, gives, firstBad}
-use Rattle.dimacs.specs.Model.{among, firstWrong, allThere}
+use Rattle.dimacs.specs.Clause.{Clause, makes, makesAll}
+use Rattle.dimacs.specs.Decision.{firstFalse, firstBad, firstWrong, allThere}
+use Rattle.dimacs.specs.Reply.{Line, bad, quiet, says, gives}
+use Rattle.dimacs.specs.Model.{among}
 use Rattle.dimacs.specs.Refusals.{Fits, Missing, MadeTrue}
-use Rattle.dimacs.proofs.Bools.{both, neither, either-false}
 
 -- a search whose first place has the number k
 data From (Rule : ℕ → Type 0) (k r : ℕ) : Type 0 where
@@ -77,13 +78,13 @@ wrong-from n k seen (v ∷ vs) = go (ltb n v) refl (among v seen) refl (wrong-fr
     up i g h =
         let f = g (omega arith) in
         let e = neither (eqb (getD vs i 0) v) (among (getD vs i 0) seen) (f .1) in
-        (f .0, e .1, either-false (eqb (getD vs i 0) v) (among (getD vs i 0) (take i vs)) (e .0) (f .2))
+        (f .0, e .1, or-both (e .0) (f .2))
 
     down : (i : ℕ) → FitsAfter n seen (v ∷ vs) (suc i) → FitsAfter n (v ∷ seen) vs i
     down i g h =
         let f = g (omega arith) in
         let e = neither (eqb (getD vs i 0) v) (among (getD vs i 0) (take i vs)) (f .2) in
-        (f .0, either-false (eqb (getD vs i 0) v) (among (getD vs i 0) seen) (e .0) (f .1), e .1)
+        (f .0, or-both (e .0) (f .1), e .1)
 
     go : (x : Bool) → ltb n v ≡ x → (y : Bool) → among v seen ≡ y → From (FitsAfter n (v ∷ seen) vs) (suc k) (firstWrong n (v ∷ seen) (suc k) vs) → From (FitsAfter n seen (v ∷ vs)) k (cond (x || y) k (firstWrong n (v ∷ seen) (suc k) vs))
     go true e y f r = here (λ g. let a = g (omega arith) .0 in let b = ltb-true n v e in absurd (omega arith))

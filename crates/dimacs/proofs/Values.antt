@@ -9,8 +9,9 @@ use lib.Dec.{leb, eqb}
 use lib.ListN.{length, getD, length-append, List·getD-append}
 use lib.Seq.{getD-append-seam}
 use borrow.Author.Tests.{leb-true, eqb-true, eqb-false}
-use Rattle.dimacs.specs.Clause.{Clause, valueIn, assigned, isTrue, makes, makesAll, firstFalse, within, withinAll}
-use Rattle.dimacs.proofs.Bools.{both}
+use Rattle.facts.proofs.Bools.{both}
+use Rattle.dimacs.specs.Clause.{Clause, valueIn, isTrue, makes, makesAll, within, withinAll}
+use Rattle.dimacs.specs.Decision.{assigned, firstFalse}
 
 pub assigned-length : (n : ℕ) (σ : ℕ → Bool) → length (assigned n σ) ≡ n
 unfolding assigned
@@ -33,7 +34,7 @@ assigned-value (suc n) σ v a b = go (eqb v (suc n)) refl (assigned-length n σ)
         List·getD-append (assigned n σ) (σ (suc n) ∷ []) false (v - 1) (omega arith) ∙ r (omega arith)
 
 module _ (n : ℕ) (σ τ : ℕ → Bool) (same : (v : ℕ) → 1 ≤ v → v ≤ n → σ v ≡ τ v) where
-  pub makes-agree : (c : Clause) → within n c ≡ true → makes σ c ≡ makes τ c
+  makes-agree : (c : Clause) → within n c ≡ true → makes σ c ≡ makes τ c
   unfolding makes within isTrue
   makes-agree [] h = refl
   makes-agree (l ∷ c) h =

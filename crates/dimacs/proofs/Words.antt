@@ -8,10 +8,12 @@ use native.Mathlib.Omega.{arith}
 use lib.Dec.{eqb, leb}
 use lib.ListN.{length}
 use borrow.Author.Tests.{eqb-true, eq-eqb, ne-eqb, leb-true, le-leb}
-use Rattle.dimacs.specs.Reply.{onto, split, same, every, digit, Word, stop, lit, isNumber, decimal, nought, isLiteral, literal, unsigned, negative, satisfiable, unsatisfiable, unknown, text, Line, bad, quiet, says, statusWord, statusLine, valueLine, tagged, lineOf}
+use Rattle.facts.specs.Same.{same}
+use Rattle.facts.proofs.Same.{same-true}
+use Rattle.facts.proofs.Bools.{and-both, both, neither, or-both}
+use Rattle.dimacs.specs.Reply.{onto, split, every, isDigit, Word, stop, lit, isNumber, decimal, nought, isLiteral, literal, unsigned, negative, satisfiable, unsatisfiable, unknown, text, Line, bad, quiet, says, statusWord, statusLine, valueLine, tagged, lineOf}
 use Rattle.dimacs.specs.Forms.{IsLiteral, a-nought, a-plain, a-negated, spaced, IsLine, empty, c-alone, c-blank, s-line, v-line}
-use Rattle.dimacs.proofs.Cut.{same-true, StatusWord, no-status, a-status, status-word-view}
-use Rattle.dimacs.proofs.Bools.{both, both-true, neither, either-false}
+use Rattle.dimacs.proofs.Cut.{StatusWord, no-status, a-status, status-word-view}
 
 -- the words of a text, with single blanks between them, are the text
 joined : (l : List ℕ) → (w : List ℕ) × (ws : List (List ℕ)) × (split 32 l ≡ w ∷ ws) × (l ≡ w ++ spaced ws)
@@ -79,95 +81,16 @@ split-cons s (b ∷ t) = go (eqb b s) (split s t)
     go false [] = (b ∷ [], [], refl)
     go false (l ∷ ls) = (b ∷ l, ls, refl)
 
--- a byte stands in the text
-unfoldable pub has : ℕ → List ℕ → Bool
-has s [] = false
-has s (b ∷ t) = eqb b s || has s t
-
--- no literal has a byte below the minus: no blank and no LF
-module _ (s : ℕ) (low : s < 45) where
-  pub digits-free : (w : List ℕ) → every digit w ≡ true → has s w ≡ false
-  unfolding every has
-  digits-free [] h = refl
-  digits-free (b ∷ w) h =
-      let g = both (digit b) (every digit w) h in
-      let l = leb-true 48 b (both (leb 48 b) (leb b 57) (g .0) .0) in
-      either-false (eqb b s) (has s w) (ne-eqb b s (λ e. omega arith)) (digits-free w (g .1))
-
-  number-free : (w : List ℕ) → isNumber w ≡ true → has s w ≡ false
-  unfolding isNumber has
-  number-free [] h = refl
-  number-free (b ∷ w) h =
-      let g = both (leb 49 b && leb b 57) (leb (length w) 2 && every digit w) h in
-      let l = leb-true 49 b (both (leb 49 b) (leb b 57) (g .0) .0) in
-      either-false (eqb b s) (has s w) (ne-eqb b s (λ e. omega arith)) (digits-free w (both (leb (length w) 2) (every digit w) (g .1) .1))
-
-  unsigned-free : (w : List ℕ) → has s (unsigned w) ≡ false → has s w ≡ false
-  unfolding unsigned has
-  unsigned-free [] h = refl
-  unsigned-free (b ∷ w) h = go (eqb b 45) refl h
-    where
-      go : (x : Bool) → eqb b 45 ≡ x → has s (cond x w (b ∷ w)) ≡ false → (eqb b s || has s w) ≡ false
-      go true e h = let f = eqb-true b 45 e in either-false (eqb b s) (has s w) (ne-eqb b s (λ g. omega arith)) h
-      go false e h = h
-
-  pub literal-free : (w : List ℕ) → isLiteral w ≡ true → has s w ≡ false
-  unfolding isLiteral has
-  literal-free w h = go (same w nought) refl h
-    where
-      zero-free : has s nought ≡ false
-      zero-free = either-false (eqb 48 s) false (ne-eqb 48 s (λ g. omega arith)) refl
-
-      go : (x : Bool) → same w nought ≡ x → cond x true (isNumber (unsigned w)) ≡ true → has s w ≡ false
-      go true e h = subst (λ z. has s z ≡ false) (sym (same-true w nought e)) zero-free
-      go false e h = unsigned-free w (number-free (unsigned w) h)
-
--- a word without the byte s, and what comes after it
-module _ (s : ℕ) where
-  pub split-end : (w : List ℕ) → has s w ≡ false → split s w ≡ w ∷ []
-  unfolding split onto has
-  split-end [] h = refl
-  split-end (b ∷ w) h = let n = neither (eqb b s) (has s w) h in simp (n .0) (ap (onto b) (split-end w (n .1)))
-
-  pub split-at : (w r : List ℕ) → has s w ≡ false → split s (w ++ s ∷ r) ≡ w ∷ split s r
-  unfolding split onto has
-  split-at [] r h = simp (eq-eqb s s refl)
-  split-at (b ∷ w) r h = let n = neither (eqb b s) (has s w) h in simp (n .0) (ap (onto b) (split-at w r (n .1)))
-
-pub has-append : (s : ℕ) (w v : List ℕ) → has s w ≡ false → has s v ≡ false → has s (w ++ v) ≡ false
-unfolding has
-has-append s [] v h k = k
-has-append s (b ∷ w) v h k = let n = neither (eqb b s) (has s w) h in either-false (eqb b s) (has s (w ++ v)) (n .0) (has-append s w v (n .1) k)
-
--- words, a blank before each, are these words
-split-spaced : (w : List ℕ) (ws : List (List ℕ)) → has 32 w ≡ false → every isLiteral ws ≡ true → split 32 (w ++ spaced ws) ≡ w ∷ ws
-unfolding spaced every
-split-spaced w [] h k = ap (split 32) (append-nil w) ∙ split-end 32 w h
-split-spaced w (v ∷ ws) h k =
-    let g = both (isLiteral v) (every isLiteral ws) k in
-    split-at 32 w (v ++ spaced ws) h ∙ ap (λ z. w ∷ z) (split-spaced v ws (literal-free 32 (omega arith) v (g .0)) (g .1))
-
--- and what is so `lineOf` says
-pub line-is : {l : List ℕ} {k : Line} → IsLine l k → lineOf l ≡ k
-unfolding lineOf split onto tagged statusLine statusWord valueLine same text has
-line-is empty = refl
-line-is c-alone = refl
-line-is (c-blank m) = refl
-line-is (s-line satisfiable) = refl
-line-is (s-line unsatisfiable) = refl
-line-is (s-line unknown) = refl
-line-is (v-line w ws h) = ap tagged (split-spaced (118 ∷ []) (w ∷ ws) refl h) ∙ simp h
-
-number-says : (b : ℕ) (u : List ℕ) → isNumber (b ∷ u) ≡ true → ((leb 49 b && leb b 57) ≡ true) × (length u ≤ 2) × (every digit u ≡ true)
+number-says : (b : ℕ) (u : List ℕ) → isNumber (b ∷ u) ≡ true → ((leb 49 b && leb b 57) ≡ true) × (length u ≤ 2) × (every isDigit u ≡ true)
 unfolding isNumber
 number-says b u h =
-    let g = both (leb 49 b && leb b 57) (leb (length u) 2 && every digit u) h in
-    let k = both (leb (length u) 2) (every digit u) (g .1) in
+    let g = both (leb 49 b && leb b 57) (leb (length u) 2 && every isDigit u) h in
+    let k = both (leb (length u) 2) (every isDigit u) (g .1) in
     (g .0, leb-true (length u) 2 (k .0), k .1)
 
-says-number : (b : ℕ) (u : List ℕ) → (leb 49 b && leb b 57) ≡ true → length u ≤ 2 → every digit u ≡ true → isNumber (b ∷ u) ≡ true
+says-number : (b : ℕ) (u : List ℕ) → (leb 49 b && leb b 57) ≡ true → length u ≤ 2 → every isDigit u ≡ true → isNumber (b ∷ u) ≡ true
 unfolding isNumber
-says-number b u h k d = both-true _ _ h (both-true _ _ (le-leb (length u) 2 k) d)
+says-number b u h k d = and-both h (and-both (le-leb (length u) 2 k) d)
 
 -- with or without a minus
 number-shows : (w : List ℕ) → isNumber (unsigned w) ≡ true → IsLiteral w (lit (record { variable = decimal 0 (unsigned w); negated = negative w }))
@@ -191,6 +114,72 @@ literal-shows w = go (same w nought) refl
     go : (x : Bool) → same w nought ≡ x → cond x true (isNumber (unsigned w)) ≡ true → IsLiteral w (cond x stop (lit (record { variable = decimal 0 (unsigned w); negated = negative w })))
     go true e h = subst (λ z. IsLiteral z stop) (sym (same-true w nought e)) a-nought
     go false e h = number-shows w h
+
+-- a byte stands in the text
+unfoldable pub has : ℕ → List ℕ → Bool
+has s [] = false
+has s (b ∷ t) = eqb b s || has s t
+
+-- no literal has a byte below the minus: no blank and no LF
+module _ (s : ℕ) (low : s < 45) where
+  pub digits-free : (w : List ℕ) → every isDigit w ≡ true → has s w ≡ false
+  unfolding every has
+  digits-free [] h = refl
+  digits-free (b ∷ w) h =
+      let g = both (isDigit b) (every isDigit w) h in
+      let l = leb-true 48 b (both (leb 48 b) (leb b 57) (g .0) .0) in
+      or-both (ne-eqb b s (λ e. omega arith)) (digits-free w (g .1))
+
+  number-free : (b : ℕ) (w : List ℕ) → (leb 49 b && leb b 57) ≡ true → every isDigit w ≡ true → has s (b ∷ w) ≡ false
+  unfolding has
+  number-free b w h d =
+      let l = leb-true 49 b (both (leb 49 b) (leb b 57) h .0) in
+      or-both (ne-eqb b s (λ e. omega arith)) (digits-free w d)
+
+  is-literal-free : {w : List ℕ} {x : Word} → IsLiteral w x → has s w ≡ false
+  unfolding has
+  is-literal-free a-nought = or-both (ne-eqb 48 s (λ e. omega arith)) refl
+  is-literal-free (a-plain b w h k d) = number-free b w h d
+  is-literal-free (a-negated b w h k d) = or-both (ne-eqb 45 s (λ e. omega arith)) (number-free b w h d)
+
+  pub literal-free : (w : List ℕ) → isLiteral w ≡ true → has s w ≡ false
+  literal-free w h = is-literal-free (literal-shows w h)
+
+-- a word without the byte s, and what comes after it
+module _ (s : ℕ) where
+  pub split-end : (w : List ℕ) → has s w ≡ false → split s w ≡ w ∷ []
+  unfolding split onto has
+  split-end [] h = refl
+  split-end (b ∷ w) h = let n = neither (eqb b s) (has s w) h in simp (n .0) (ap (onto b) (split-end w (n .1)))
+
+  pub split-at : (w r : List ℕ) → has s w ≡ false → split s (w ++ s ∷ r) ≡ w ∷ split s r
+  unfolding split onto has
+  split-at [] r h = simp (eq-eqb s s refl)
+  split-at (b ∷ w) r h = let n = neither (eqb b s) (has s w) h in simp (n .0) (ap (onto b) (split-at w r (n .1)))
+
+pub has-append : (s : ℕ) (w v : List ℕ) → has s w ≡ false → has s v ≡ false → has s (w ++ v) ≡ false
+unfolding has
+has-append s [] v h k = k
+has-append s (b ∷ w) v h k = let n = neither (eqb b s) (has s w) h in or-both (n .0) (has-append s w v (n .1) k)
+
+-- words, a blank before each, are these words
+split-spaced : (w : List ℕ) (ws : List (List ℕ)) → has 32 w ≡ false → every isLiteral ws ≡ true → split 32 (w ++ spaced ws) ≡ w ∷ ws
+unfolding spaced every
+split-spaced w [] h k = ap (split 32) (append-nil w) ∙ split-end 32 w h
+split-spaced w (v ∷ ws) h k =
+    let g = both (isLiteral v) (every isLiteral ws) k in
+    split-at 32 w (v ++ spaced ws) h ∙ ap (λ z. w ∷ z) (split-spaced v ws (literal-free 32 (omega arith) v (g .0)) (g .1))
+
+-- and what is so `lineOf` says
+pub line-is : {l : List ℕ} {k : Line} → IsLine l k → lineOf l ≡ k
+unfolding lineOf split onto tagged statusLine statusWord valueLine same text has
+line-is empty = refl
+line-is c-alone = refl
+line-is (c-blank m) = refl
+line-is (s-line satisfiable) = refl
+line-is (s-line unsatisfiable) = refl
+line-is (s-line unknown) = refl
+line-is (v-line w ws h) = ap tagged (split-spaced (118 ∷ []) (w ∷ ws) refl h) ∙ simp h
 
 -- and a literal passes, with its value
 pub literal-is : {w : List ℕ} {x : Word} → IsLiteral w x → (isLiteral w ≡ true) × (literal w ≡ x)

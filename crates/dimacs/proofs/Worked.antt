@@ -3,10 +3,12 @@ use mathlib.Core.Path.{_≡_, refl}
 use mathlib.Core.Bool.{Bool, true, false}
 use mathlib.Core.List.{List, [], _∷_}
 use Prim.Native.Nat.{ℕ}
+use Rattle.facts.specs.Same.{same}
 use Rattle.text.specs.Text.{digits}
-use Rattle.dimacs.specs.Clause.{Literal, Clause, isTrue, makes, firstFalse}
-use Rattle.dimacs.specs.Reply.{onto, split, kept, lines, same, every, isNumber, decimal, unsigned, negative, isLiteral, literal, text, statusWord, statusLine, valueLine, tagged, lineOf, firstBad, statuses, literals, closed, settle, placed, judged, answerOf}
-use Rattle.dimacs.specs.Model.{before, among, firstWrong, allThere, place7, holds, Refused, Accepted, Claimed, Unknown, checked, replied, replyOf}
+use Rattle.dimacs.specs.Clause.{Literal, Clause, isTrue, makes}
+use Rattle.dimacs.specs.Decision.{firstFalse, firstBad, settle, badFirst, judged, answerOf, firstWrong, allThere, place7, checked, replied, replyOf}
+use Rattle.dimacs.specs.Reply.{onto, split, kept, lines, every, isNumber, decimal, unsigned, negative, isLiteral, literal, text, statusWord, statusLine, valueLine, tagged, lineOf, statuses, literals, closed}
+use Rattle.dimacs.specs.Model.{beforeNought, among, holds, Refused, Accepted, Claimed, Unknown}
 use Rattle.dimacs.specs.Lines.{literalText, literalsText, clauseText, clausesText, headerText}
 
 abbrev literalOf : ℕ → Bool → Literal
@@ -45,5 +47,5 @@ pub record Worked : Type 0 where
   pub clauses-of-a : clausesText jobA ≡ 49 ∷ 32 ∷ 50 ∷ 32 ∷ 48 ∷ 10 ∷ 50 ∷ 32 ∷ 51 ∷ 32 ∷ 48 ∷ 10 ∷ 45 ∷ 50 ∷ 32 ∷ 45 ∷ 51 ∷ 32 ∷ 48 ∷ 10 ∷ []
 
 pub worked : Worked
-unfolding isTrue makes firstFalse onto split kept lines same every isNumber decimal unsigned negative isLiteral literal text statusWord statusLine valueLine tagged lineOf firstBad statuses literals closed settle placed judged answerOf before among firstWrong allThere place7 holds checked replied replyOf literalText literalsText clauseText clausesText headerText digits
+unfolding isTrue makes firstFalse onto split kept lines same every isNumber decimal unsigned negative isLiteral literal text statusWord statusLine valueLine tagged lineOf firstBad statuses literals closed settle badFirst judged answerOf beforeNought among firstWrong allThere place7 holds checked replied replyOf literalText literalsText clauseText clausesText headerText digits
 worked = record { model-of-a = refl; empty-reply = refl; no-value-line = refl; second-nought = refl; minus-nought = refl; leading-zero = refl; seen-before = refl; missing = refl; false-clause = refl; no-connection = refl; unsatisfiable-claims = refl; unknown-stays = refl; header-of-a = refl; clauses-of-a = refl }

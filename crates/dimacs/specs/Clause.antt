@@ -1,30 +1,22 @@
 -- Clauses, and what an assignment makes of them. Assumes nothing: these are definitions.
-use Prim.Native.Nat.{ℕ, zero, suc, _-_}
 use mathlib.Core.Bool.{Bool, true, false, cond, not, _&&_, _||_}
-use mathlib.Core.List.{List, [], _∷_, _++_}
+use mathlib.Core.List.{List, [], _∷_}
+use Prim.Native.Nat.{ℕ, _-_}
 use lib.Dec.{leb}
 use lib.ListN.{getD}
-
--- the limit of V: 64 connections of 6 bits each
-abbrev pub mostVariables : ℕ
-mostVariables = 384
 
 -- a variable, plain or negated; variables are numbered from 1
 pub record Literal : Type 0 where
   pub variable : ℕ
   pub negated : Bool
 
+-- a clause is a list of literals
 abbrev pub Clause : Type 0
 Clause = List Literal
 
 -- what an assignment, a value for each of the variables 1 to V, gives to a variable
 unfoldable pub valueIn : List Bool → ℕ → Bool
 valueIn a v = getD a (v - 1) false
-
--- the assignment of the variables 1 to n that gives each its value under σ
-unfoldable pub assigned : ℕ → (ℕ → Bool) → List Bool
-assigned zero σ = []
-assigned (suc n) σ = assigned n σ ++ (σ (suc n) ∷ [])
 
 -- a literal is true
 unfoldable pub isTrue : (ℕ → Bool) → Literal → Bool
@@ -40,16 +32,12 @@ unfoldable pub makesAll : (ℕ → Bool) → List Clause → Bool
 makesAll σ [] = true
 makesAll σ (c ∷ cs) = makes σ c && makesAll σ cs
 
--- the first clause that is made false, counted from i, or 0
-unfoldable pub firstFalse : (ℕ → Bool) → ℕ → List Clause → ℕ
-firstFalse σ i [] = 0
-firstFalse σ i (c ∷ cs) = cond (makes σ c) (firstFalse σ (suc i) cs) i
-
 -- the variables of a clause are 1 to n
 unfoldable pub within : ℕ → Clause → Bool
 within n [] = true
 within n (l ∷ c) = (leb 1 (l .variable) && leb (l .variable) n) && within n c
 
+-- and those of all clauses
 unfoldable pub withinAll : ℕ → List Clause → Bool
 withinAll n [] = true
 withinAll n (c ∷ cs) = within n c && withinAll n cs

@@ -6,13 +6,13 @@ use mathlib.Core.List.{List, [], _∷_, _++_, map}
 use Prim.Native.Nat.{ℕ, _≤_}
 use lib.Dec.{leb}
 use lib.ListN.{length}
-use Rattle.dimacs.specs.Reply.{Word, stop, lit, digit, decimal, isLiteral, literal, every, Status, text, Line, quiet, says, gives}
+use Rattle.dimacs.specs.Reply.{Word, stop, lit, isDigit, decimal, isLiteral, literal, every, Status, text, Line, quiet, says, gives}
 
 -- a literal is `0`, or an optional minus and one to three digits, the first not 0
 pub data IsLiteral : List ℕ → Word → Type 0 where
   a-nought : IsLiteral (48 ∷ []) stop
-  a-plain : (b : ℕ) (w : List ℕ) → (leb 49 b && leb b 57) ≡ true → length w ≤ 2 → every digit w ≡ true → IsLiteral (b ∷ w) (lit (record { variable = decimal 0 (b ∷ w); negated = false }))
-  a-negated : (b : ℕ) (w : List ℕ) → (leb 49 b && leb b 57) ≡ true → length w ≤ 2 → every digit w ≡ true → IsLiteral (45 ∷ b ∷ w) (lit (record { variable = decimal 0 (b ∷ w); negated = true }))
+  a-plain : (b : ℕ) (w : List ℕ) → (leb 49 b && leb b 57) ≡ true → length w ≤ 2 → every isDigit w ≡ true → IsLiteral (b ∷ w) (lit (record { variable = decimal 0 (b ∷ w); negated = false }))
+  a-negated : (b : ℕ) (w : List ℕ) → (leb 49 b && leb b 57) ≡ true → length w ≤ 2 → every isDigit w ≡ true → IsLiteral (45 ∷ b ∷ w) (lit (record { variable = decimal 0 (b ∷ w); negated = true }))
 
 -- a blank before each word
 unfoldable pub spaced : List (List ℕ) → List ℕ

@@ -4,3 +4,5 @@ pub mod Forms
 pub mod Model
 pub mod Refusals
 pub mod Lines
+pub mod Decision
+pub mod ReadBack

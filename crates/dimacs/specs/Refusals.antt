@@ -11,7 +11,7 @@ use Rattle.dimacs.specs.Clause.{Literal, Clause, makes, makesAll}
 use Rattle.dimacs.specs.Reply.{Word, stop, lit, Status, satisfiable, unsatisfiable, unknown, Line, bad, quiet, lines, lineOf, statuses, literals}
 use Rattle.dimacs.specs.Model.{among, variables, holds, Reply, Refused, Accepted, Claimed, Unknown}
 
--- the lines of a text, each read
+-- the lines of a text, each read: `line-is` and `line-shows` (proofs/Words.antt) hold `lineOf` to the lines of document 01's sentence
 abbrev pub linesIn : List ℕ → List Line
 linesIn t = map lineOf (lines t)
 
@@ -34,8 +34,8 @@ pub record Says (t : List ℕ) (ss : List Status) (ws : List Word) : Type 0 wher
   pub value-words : literals (linesIn t) ≡ ws
 
 -- the text is well-formed with `s SATISFIABLE`, and these are the literals before `0`
-abbrev pub Gives : List ℕ → List Literal → Type 0
-Gives t xs = Says t (satisfiable ∷ []) (map lit xs ++ (stop ∷ []))
+abbrev pub GivesModel : List ℕ → List Literal → Type 0
+GivesModel t xs = Says t (satisfiable ∷ []) (map lit xs ++ (stop ∷ []))
 
 -- the variable at position i, counted from 0, is not above V and was not seen before
 abbrev pub Fits : ℕ → List ℕ → ℕ → Type 0
@@ -45,9 +45,14 @@ Fits n vs i = i < length vs → (getD vs i 0 ≤ n) × (among (getD vs i 0) (tak
 abbrev pub Missing : ℕ → List ℕ → Type 0
 Missing n vs = (v : ℕ) × (1 ≤ v) × (v ≤ n) × (among v vs ≡ false)
 
--- 7: a literal's variable above V or seen before, at the first such position; else variables missing, at the number of literals plus 1
+-- what is unfit of literals, and its place: a literal's variable above V or seen before, at the first such position; else variables missing, at the number
+-- of literals plus 1
+abbrev pub Unfit : ℕ → List Literal → ℕ → Type 0
+Unfit n xs p = FirstBroken (Fits n (variables xs)) p ⊎ (((i : ℕ) → Fits n (variables xs) i) × Missing n (variables xs) × (p ≡ length xs + 1))
+
+-- 7: with `s SATISFIABLE`, the literals before `0` are unfit
 abbrev pub row7 : ℕ → List ℕ → Rows
-row7 n t = row 7 (λ p. (xs : List Literal) × Gives t xs × (FirstBroken (Fits n (variables xs)) p ⊎ (((i : ℕ) → Fits n (variables xs) i) × Missing n (variables xs) × (p ≡ length xs + 1))))
+row7 n t = row 7 (λ p. (xs : List Literal) × GivesModel t xs × Unfit n xs p)
 
 -- clause i, counted from 0, is made true
 abbrev pub MadeTrue : (ℕ → Bool) → List Clause → ℕ → Type 0
@@ -61,14 +66,15 @@ pub record IsModel (n : ℕ) (cs : List Clause) (xs : List Literal) : Type 0 whe
 
 -- 8: the model makes a clause false, at the first such clause
 abbrev pub row8 : List Clause → List ℕ → Rows
-row8 cs t = row 8 (λ p. (xs : List Literal) × Gives t xs × FirstBroken (MadeTrue (holds xs) cs) p)
+row8 cs t = row 8 (λ p. (xs : List Literal) × GivesModel t xs × FirstBroken (MadeTrue (holds xs) cs) p)
 
+-- all three
 abbrev pub replyRows : ℕ → List Clause → List ℕ → Rows
 replyRows n cs t = row6 t or row7 n t or row8 cs t
 
 -- what an answer says of the text: the row that decides; or no row holds, and the `s` line is as the answer has it
 pub data Means (n : ℕ) (cs : List Clause) (t : List ℕ) : Reply → Type 0 where
   is-refused : (num p : ℕ) → Refuses (replyRows n cs t) num p → Means n cs t (Refused num p)
-  is-accepted : (xs : List Literal) → Gives t xs → Passes (replyRows n cs t) → Means n cs t (Accepted xs)
+  is-accepted : (xs : List Literal) → GivesModel t xs → Passes (replyRows n cs t) → Means n cs t (Accepted xs)
   is-claimed : Says t (unsatisfiable ∷ []) [] → Passes (replyRows n cs t) → Means n cs t Claimed
   is-unknown : Says t (unknown ∷ []) [] → Passes (replyRows n cs t) → Means n cs t Unknown

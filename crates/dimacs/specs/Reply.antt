@@ -1,9 +1,11 @@
--- A solver's reply: its lines, literals and answer, in the words of document 01, "A solver's reply". Assumes nothing: these are definitions.
-use Prim.Native.Nat.{ℕ, zero, suc, _+_, _-_, _*_, _<_}
+-- A solver's reply: its lines and literals, in the words of document 01, "A solver's reply". What is computed here is held
+-- to document 01's sentence, which Forms.antt has as a list of forms, by the laws of proofs/Words.antt. Assumes nothing: these are definitions.
 use mathlib.Core.Bool.{Bool, true, false, cond, _&&_}
 use mathlib.Core.List.{List, [], _∷_, _++_, map}
-use lib.ListN.{length}
+use Prim.Native.Nat.{ℕ, _+_, _-_, _*_, _<_}
 use lib.Dec.{eqb, leb}
+use lib.ListN.{length}
+use Rattle.facts.specs.Same.{same}
 use Rattle.dimacs.specs.Clause.{Literal}
 
 -- the byte b before the first of the parts
@@ -31,13 +33,6 @@ lines t = kept (split 10 t)
 abbrev pub Ended : List ℕ → ℕ → Type 0
 Ended t p = p < length (split 10 t)
 
--- the same bytes
-unfoldable pub same : List ℕ → List ℕ → Bool
-same [] [] = true
-same [] (c ∷ m) = false
-same (b ∷ l) [] = false
-same (b ∷ l) (c ∷ m) = eqb b c && same l m
-
 -- every one passes
 unfoldable pub every : {A : Type 0} → (A → Bool) → List A → Bool
 every p [] = true
@@ -48,13 +43,14 @@ pub data Word : Type 0 where
   stop : Word
   lit : Literal → Word
 
-abbrev pub digit : ℕ → Bool
-digit b = leb 48 b && leb b 57
+-- a digit
+abbrev pub isDigit : ℕ → Bool
+isDigit b = leb 48 b && leb b 57
 
 -- one to three digits, the first not 0: that one, and at most two more
 unfoldable pub isNumber : List ℕ → Bool
 isNumber [] = false
-isNumber (b ∷ w) = (leb 49 b && leb b 57) && (leb (length w) 2 && every digit w)
+isNumber (b ∷ w) = (leb 49 b && leb b 57) && (leb (length w) 2 && every isDigit w)
 
 -- the value of digits after n
 unfoldable pub decimal : ℕ → List ℕ → ℕ
@@ -66,6 +62,7 @@ unfoldable pub unsigned : List ℕ → List ℕ
 unsigned [] = []
 unsigned (b ∷ w) = cond (eqb b 45) w (b ∷ w)
 
+-- with a minus
 unfoldable pub negative : List ℕ → Bool
 negative [] = false
 negative (b ∷ w) = eqb b 45
@@ -74,13 +71,15 @@ negative (b ∷ w) = eqb b 45
 abbrev pub nought : List ℕ
 nought = 48 ∷ []
 
--- a literal is `0`, or an optional minus and one to three digits, the first not 0
+-- a literal is `0`, or an optional minus and one to three digits, the first not 0: `literal-is` and `literal-shows` say that these are those, and no others
 unfoldable pub isLiteral : List ℕ → Bool
 isLiteral w = cond (same w nought) true (isNumber (unsigned w))
 
+-- and which it is, by the same two laws
 unfoldable pub literal : List ℕ → Word
 literal w = cond (same w nought) stop (lit (record { variable = decimal 0 (unsigned w); negated = negative w }))
 
+-- the three words of an `s` line
 pub data Status : Type 0 where
   satisfiable : Status
   unsatisfiable : Status
@@ -127,20 +126,13 @@ tagged (w ∷ ws) =
     (cond (same w (118 ∷ [])) (valueLine ws)
     bad))
 
--- a line is empty, or its words, between single blanks, are as above
+-- a line is empty, or its words, between single blanks, are as above: `line-is` and `line-shows` say that it is not `bad` exactly for the lines of
+-- document 01's sentence, and which it is
 unfoldable pub lineOf : List ℕ → Line
 lineOf [] = quiet
 lineOf (b ∷ l) = tagged (split 32 (b ∷ l))
 
--- the first line not well-formed, counted from i, or 0
-unfoldable pub firstBad : ℕ → List Line → ℕ
-firstBad i [] = 0
-firstBad i (bad ∷ ks) = i
-firstBad i (quiet ∷ ks) = firstBad (suc i) ks
-firstBad i (says s ∷ ks) = firstBad (suc i) ks
-firstBad i (gives xs ∷ ks) = firstBad (suc i) ks
-
--- the `s` lines
+-- the `s` lines, in their order
 unfoldable pub statuses : List Line → List Status
 statuses [] = []
 statuses (bad ∷ ks) = statuses ks
@@ -156,45 +148,9 @@ literals (quiet ∷ ks) = literals ks
 literals (says s ∷ ks) = literals ks
 literals (gives xs ∷ ks) = xs ++ literals ks
 
--- they hold one `0`, the last of them
+-- they hold one `0`, the last of them: `closed-is` and `is-closed` (proofs/Meaning.antt)
 unfoldable pub closed : List Word → Bool
 closed [] = false
 closed (stop ∷ []) = true
 closed (stop ∷ x ∷ xs) = false
 closed (lit l ∷ xs) = closed xs
-
--- what row 6 leaves of a text: refused at a place; or SATISFIABLE with these literals, UNSATISFIABLE, UNKNOWN
-pub data Parsed : Type 0 where
-  Refused6 : ℕ → Parsed
-  Sat : List Word → Parsed
-  Unsat : Parsed
-  Unsure : Parsed
-
--- exactly one `s` line; with SATISFIABLE the literals are closed, otherwise there are none
-unfoldable pub settle : List Status → List Word → Parsed
-settle [] xs = Refused6 0
-settle (satisfiable ∷ []) xs = cond (closed xs) (Sat xs) (Refused6 0)
-settle (unsatisfiable ∷ []) [] = Unsat
-settle (unsatisfiable ∷ []) (x ∷ xs) = Refused6 0
-settle (unknown ∷ []) [] = Unsure
-settle (unknown ∷ []) (x ∷ xs) = Refused6 0
-settle (s ∷ s′ ∷ ss) xs = Refused6 0
-
--- a line not well-formed decides before the other rules
-unfoldable pub placed : ℕ → Parsed → Parsed
-placed zero a = a
-placed (suc n) a = Refused6 (suc n)
-
-unfoldable pub judged : List Line → Parsed
-judged ks = placed (firstBad 1 ks) (settle (statuses ks) (literals ks))
-
--- what a text says, for every text
-unfoldable pub answerOf : List ℕ → Parsed
-answerOf t = judged (map lineOf (lines t))
-
--- not refused by row 6
-unfoldable pub accepts : Parsed → Bool
-accepts (Refused6 n) = false
-accepts (Sat xs) = true
-accepts Unsat = true
-accepts Unsure = true

@@ -17,7 +17,8 @@ use Rattle.part.proofs.RoundTrip.{written-file, file-room}
 use Rattle.route.specs.declared.Verdict.{Verdict}
 use Rattle.route.specs.declared.Verdict.the-variants as variant
 use Rattle.route.specs.Routes.{Routes}
-use Rattle.editor.specs.Edits.{refuses, routes, RoutesBytes, mostBytes}
+use Rattle.editor.specs.Edits.{refuses, routes}
+use Rattle.editor.specs.Gathering.{RoutesBytes, mostBytes}
 
 module _ (a : List ℕ) (count k : ℕ) (room : 3 * count ≤ length a) (few : count ≤ mostConnections) (old new : List ℕ) (r : Written) (w : Writes p1 (take (3 * count) a) k old r new) where
   abbrev bytes : List ℕ

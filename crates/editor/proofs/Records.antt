@@ -16,7 +16,7 @@ use Rattle.text.proofs.Writing.{sets-append}
 use Rattle.channel.specs.Limits.{mostConnections, Limits}
 use Rattle.channel.specs.Channel.{Connection}
 use Rattle.channel.specs.Valid.{ConnectionRule}
-use Rattle.jobfile.specs.File.{connectionBytes, all, encode}
+use Rattle.jobfile.specs.File.{connectionBytes, joined, encode}
 use Rattle.jobfile.specs.Rows.{connectionRead, ConnectionKept, tab}
 use Rattle.jobfile.proofs.Decode.{tab-length, tab-at}
 use Rattle.jobfile.proofs.Encode.{connections-length}
@@ -26,27 +26,28 @@ use Rattle.part.specs.Writes.{countOf, connectionsOf, Takes, partRows, fileOf}
 use Rattle.route.specs.declared.Verdict.{Verdict}
 use Rattle.route.specs.Routes.{Routes}
 use Rattle.editor.specs.declared.Connection.{Connection as Record}
-use Rattle.editor.specs.Edits.{connectionOf, toldBy, bytesOf, none, editorRows, editorFile, AsFile, refuses, routes, Edits, RoutesBytes, mostBytes, blank, placed, gathered}
+use Rattle.editor.specs.Edits.{connectionOf, toldBy, bytesOf, none, editorRows, editorFile, AsFile, refuses, routes, Edits}
+use Rattle.editor.specs.Gathering.{RoutesBytes, mostBytes, noBytes, placed, gathered}
 
 -- each connection is read back from the bytes of all
-read-at : (xs : List Connection) (i : ℕ) (d : Connection) → i < length xs → connectionRead (all connectionBytes xs) (3 * i) ≡ getD xs i d
-unfolding all
+read-at : (xs : List Connection) (i : ℕ) (d : Connection) → i < length xs → connectionRead (joined connectionBytes xs) (3 * i) ≡ getD xs i d
+unfolding joined
 read-at [] i d l = absurd (omega arith)
 read-at (x ∷ xs) zero d l = refl
 read-at (x ∷ xs) (suc i) d l =
     (λ j. record { left = shift (3 * suc i) (3 * i) (omega arith) j; right = shift (3 * suc i + 1) (3 * i + 1) (omega arith) j; mark = shift (3 * suc i + 2) (3 * i + 2) (omega arith) j })
     ∙ read-at xs i d (omega arith)
   where
-    shift : (n m : ℕ) → n ≡ 3 + m → getD (all connectionBytes (x ∷ xs)) n 0 ≡ getD (all connectionBytes xs) m 0
-    shift n m e = ap (λ z. getD (all connectionBytes (x ∷ xs)) z 0) e ∙ sym (getD-drop 3 (all connectionBytes (x ∷ xs)) m 0)
+    shift : (n m : ℕ) → n ≡ 3 + m → getD (joined connectionBytes (x ∷ xs)) n 0 ≡ getD (joined connectionBytes xs) m 0
+    shift n m e = ap (λ z. getD (joined connectionBytes (x ∷ xs)) z 0) e ∙ sym (getD-drop 3 (joined connectionBytes (x ∷ xs)) m 0)
 
-bytes-count : (xs : List Connection) → countOf (all connectionBytes xs) ≡ length xs
+bytes-count : (xs : List Connection) → countOf (joined connectionBytes xs) ≡ length xs
 bytes-count xs = omega (arith, connections-length xs)
 
-pub connections-told : (xs : List Connection) → connectionsOf (all connectionBytes xs) ≡ xs
+pub connections-told : (xs : List Connection) → connectionsOf (joined connectionBytes xs) ≡ xs
 connections-told xs =
     let d : Connection = record { left = 0; right = 0; mark = 0 } in
-    let f : List ℕ = all connectionBytes xs in
+    let f : List ℕ = joined connectionBytes xs in
     let g : ℕ → Connection = λ i. connectionRead f (3 * i) in
     ap (λ z. tab g z 0) (bytes-count xs)
     ∙ ext-getD d (tab g (length xs) 0) xs (tab-length g (length xs) 0) (λ i l.
@@ -61,7 +62,7 @@ placed-sets : (l : List ℕ) (i : ℕ) (c : Record) → i < mostConnections → 
 placed-sets l i c h = sym (placed-few l i c h) ∙ (λ j. set (set (set l (3 * i) (c .left)) (add-one (3 * i) j) (c .right)) (add-two (3 * i) j) (c .mark))
 
 gathered-sets : (cs : List Record) (i : ℕ) (l : List ℕ) → i + length cs ≤ mostConnections → gathered cs i l ≡ sets l (3 * i) (bytesOf cs)
-unfolding gathered all
+unfolding gathered joined
 gathered-sets [] i l h = refl
 gathered-sets (c ∷ cs) i l h =
     let e : 3 * (i + 1) ≡ 3 * i + 3 = omega arith in
@@ -77,9 +78,9 @@ module _ (cs : List Record) where
   count-is = omega (arith, bytes-long)
 
   -- what is gathered has the records' bytes in front
-  gathered-front : length cs ≤ mostConnections → take (3 * length cs) (gathered cs 0 blank) ≡ bytesOf cs
+  gathered-front : length cs ≤ mostConnections → take (3 * length cs) (gathered cs 0 noBytes) ≡ bytesOf cs
   gathered-front h =
-      let l : List ℕ = blank in
+      let l : List ℕ = noBytes in
       ap (take (3 * length cs)) (gathered-sets cs 0 l (omega arith) ∙ sets-eq (bytesOf cs) l 0 (omega (arith, bytes-long, length-replicate {A = ℕ} mostBytes 0)))
       ∙ take-at (bytesOf cs) _ (3 * length cs) bytes-long
 
@@ -122,7 +123,7 @@ module _ (cs : List Record) where
     too-many h = refuses-left (refuses-row 2 0 ((λ g. omega (arith, g .m-high)), refl)) (behind-row (omega arith))
 
     -- what the core answers on the gathered bytes is the entry's answer
-    pub edits-of : (a : List ℕ) (b : ℕ) (old new : List ℕ) (v : Verdict) → a ≡ gathered cs 0 blank → RoutesBytes a (length cs) k b old v new → Edits cs k b old v new
+    pub edits-of : (a : List ℕ) (b : ℕ) (old new : List ℕ) (v : Verdict) → a ≡ gathered cs 0 noBytes → RoutesBytes a (length cs) k b old v new → Edits cs k b old v new
     edits-of a b old new v e g = go (decLt mostConnections (length cs))
       where
         go : Dec (mostConnections < length cs) → Edits cs k b old v new

@@ -1,19 +1,16 @@
 -- Document 01, "The job file": the editor's entry for P1 takes its connections as a list of records, and routes exactly as the file with those connections does.
 -- Assumes nothing: these are definitions.
 use mathlib.Core.Path.{_≡_}
-use mathlib.Core.Bool.{cond}
-use mathlib.Core.List.{List, [], _∷_, map}
-use Prim.Native.Nat.{ℕ, _+_, _*_, _<_, _≤_}
-use lib.Dec.{ltb}
-use lib.ListN.{length, getD, take, set, replicate}
+use mathlib.Core.List.{List, map}
+use Prim.Native.Nat.{ℕ, _<_}
+use lib.ListN.{length, getD}
 use Rattle.refusals.specs.Table.{Rows, row, _or_, nowhere, FirstBroken, Refuses, Passes}
-use Rattle.channel.specs.Limits.{mostConnections, Limits}
+use Rattle.channel.specs.Limits.{Limits}
 use Rattle.channel.specs.Channel.{Connection}
 use Rattle.channel.specs.Valid.{ConnectionRule}
-use Rattle.jobfile.specs.File.{connectionBytes, all, encode}
+use Rattle.jobfile.specs.File.{connectionBytes, joined, encode}
 use Rattle.part.specs.Part.{tracksIn, jobOfPart}
 use Rattle.part.specs.P1.{p1}
-use Rattle.part.specs.Writes.{partRows, fileOf}
 use Rattle.route.specs.declared.Verdict.{Verdict}
 use Rattle.route.specs.declared.Verdict.the-variants as variant
 use Rattle.route.specs.Routes.{Routes}
@@ -27,7 +24,7 @@ abbrev pub toldBy : List Record → List Connection
 toldBy cs = map connectionOf cs
 
 abbrev pub bytesOf : List Record → List ℕ
-bytesOf cs = all connectionBytes (toldBy cs)
+bytesOf cs = joined connectionBytes (toldBy cs)
 
 -- a record where there is none
 abbrev pub none : Record
@@ -51,24 +48,3 @@ pub data AsFile (R : Rows) (file : List ℕ) (b : ℕ) (old : List ℕ) (v : Ver
 -- the answer of the editor's entry
 abbrev pub Edits : List Record → ℕ → ℕ → List ℕ → Verdict → List ℕ → Type 0
 Edits cs k b old v new = AsFile (editorRows cs k) (editorFile cs k) b old v new
-
--- the same over the bytes of `count` connections, in an array that has room for the most connections: what the entry calls
-pub record RoutesBytes (a : List ℕ) (count k b : ℕ) (old : List ℕ) (v : Verdict) (new : List ℕ) : Type 0 where
-  pub many : mostConnections < count → (v ≡ variant.Refused 2 0) × (new ≡ old)
-  pub few : count ≤ mostConnections → AsFile (partRows p1 (take (3 * count) a) k) (fileOf p1 (take (3 * count) a) k) b old v new
-
--- room for the bytes of the most connections
-abbrev pub mostBytes : ℕ
-mostBytes = 3 * mostConnections
-
-abbrev pub blank : List ℕ
-blank = replicate mostBytes 0
-
--- a record's bytes at their place among those of the most connections, if they have one
-abbrev pub placed : List ℕ → ℕ → Record → List ℕ
-placed l i c = cond (ltb i mostConnections) (set (set (set l (3 * i) (c .left)) (3 * i + 1) (c .right)) (3 * i + 2) (c .mark)) l
-
--- all of a list, the first at place i
-unfoldable pub gathered : List Record → ℕ → List ℕ → List ℕ
-gathered [] i l = l
-gathered (c ∷ cs) i l = gathered cs (i + 1) (placed l i c)

@@ -1,7 +1,8 @@
 // The editor's entry for P1: a lent list of records, each with left, right and mark, routed as the file with those connections is.
 // Document 01, "The job file". A thin walk copies the records to the bytes that the covered core reads.
 ghost use mathlib.Core.Path.{_≡_};
-ghost use Rattle.editor.specs.Edits.{blank, placed, gathered, RoutesBytes, Edits};
+ghost use Rattle.editor.specs.Edits.{Edits};
+ghost use Rattle.editor.specs.Gathering.{noBytes, placed, gathered, RoutesBytes};
 use channel::MOST_CONNECTIONS;
 use jobfile::CONNECTION;
 use jobfile::HEAD;
@@ -42,7 +43,7 @@ fn put_connection(bytes: [u8; BYTES], i: usize, c: Connection) -> [u8; BYTES]
 
 // The bytes of all connections, from the front.
 fn gather(connections: &[Connection]) -> [u8; BYTES]
-    ensures { λ r. ⌜ r ≡ gathered (now (connections .entry)) 0 blank ⌝ }
+    ensures { λ r. ⌜ r ≡ gathered (now (connections .entry)) 0 noBytes ⌝ }
 {
     let mut a = [0u8; BYTES];
     let mut i = 0;

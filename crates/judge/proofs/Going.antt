@@ -2,20 +2,20 @@
 use mathlib.Core.Path.{_≡_, refl, sym, _∙_}
 use mathlib.Core.Bool.{Bool, true, false, not}
 use mathlib.Core.List.{List}
-use Prim.Native.Nat.{ℕ, _+_, _*_, _-_, _≤_, _<_}
+use Prim.Native.Nat.{ℕ, _+_, _≤_, _<_}
 use native.Mathlib.Omega.{arith}
 use borrow.Author.Tests.{not-true, not-false}
 use lib.ListN.{length, getD, take, replicate}
 use lib.Seq.{length-take-le}
+use Rattle.facts.proofs.Bools.{not-both}
 use Rattle.refusals.specs.Table.{Searched, all-keep, one-breaks}
 use Rattle.channel.specs.Channel.{T, M, trackAt, connectionAt}
 use Rattle.channel.specs.Routing.{routings}
-use Rattle.jobfile.specs.Rows.{nOf, tOf, mOf, kOf, connectionsAt, trackRead, connectionRead, FineAt, jobOf}
-use Rattle.jobfile.specs.Reads.{Facts, Offsets}
+use Rattle.jobfile.specs.Rows.{tOf, mOf, kOf, jobOf}
+use Rattle.jobfile.specs.Facts.{Facts}
 use Rattle.jobfile.proofs.Decode.{job-valid}
 use Rattle.jobfile.proofs.Exact.{job-numbers}
 use Rattle.occupancy.specs.Runs.{Cell}
-use Rattle.occupancy.proofs.Reading.{fine-read, cell-read}
 use Rattle.marks.specs.Marking.{markBytes, fitsRun, takenRun, Among}
 use Rattle.marks.proofs.Laws.{run-open}
 use Rattle.marks.proofs.Kept.{Kept, among, run-ok, run-next, kept-nil}
@@ -32,12 +32,16 @@ pub record Going (f q marks : List ℕ) (i : ℕ) : Type 0 where
 pub going-first : (f q : List ℕ) → Facts f → length q ≡ mOf f → Going f q (replicate markBytes 0) 0
 going-first f q g e = record { facts = g; many = e; within = omega arith; kept = kept-nil (jobOf f) }
 
-module _ (f q marks : List ℕ) (i : ℕ) (g : Going f q marks i) where
+-- connection i + 1 is asked: its label is one of 1 to T
+pub record Asked (f q marks : List ℕ) (i : ℕ) : Type 0 where
+  pub going : Going f q marks i
+  pub inside : i < length q
+  pub low : 1 ≤ getD q i 0
+  pub high : getD q i 0 ≤ tOf f
+
+module _ {f q marks : List ℕ} {i : ℕ} (g : Going f q marks i) where
   t-is : T (jobOf f) ≡ tOf f
   t-is = sym (job-numbers f .t-is)
-
-  m-is : M (jobOf f) ≡ mOf f
-  m-is = sym (job-numbers f .m-is)
 
   passed : (x : ℕ) → x < i → RoutingKept f q x
   passed x l m = legal-kept (jobOf f) q i (g .within) (g .kept .legal) x l
@@ -50,55 +54,52 @@ module _ (f q marks : List ℕ) (i : ℕ) (g : Going f q marks i) where
   going-low h l = breaks h (λ k. omega (arith, k .label .0))
 
   pub going-high : i < length q → tOf f < getD q i 0 → Searched (RoutingKept f q) (i + 1)
-  going-high h l = breaks h (λ k. omega (arith, k .label .1, t-is))
-
-  module _ (h : i < length q) (low : 1 ≤ getD q i 0) (high : getD q i 0 ≤ tOf f) where
-    short : length (take i q) < M (jobOf f)
-    short = omega (arith, length-take-le i q (g .within), g .many, m-is)
-
-    labelled : getD q i 0 ≤ T (jobOf f)
-    labelled = omega (arith, t-is)
-
-    -- the connection is one of the file's, and the table of starts has its track's record
-    pub going-connection : i < mOf f
-    going-connection = omega (arith, g .many)
-
-    pub going-fine : (heads : List ℕ) → Offsets f heads → FineAt f (nOf f) (connectionsAt f) (getD heads (getD q i 0 - 1) 0)
-    going-fine heads o = fine-read f heads (g .facts) o (getD q i 0) low high
-
-    -- the cell that was read there
-    module _ (heads : List ℕ) (o : Offsets f heads) (a e : ℕ) (c : Cell (kOf f) (trackRead f (getD heads (getD q i 0 - 1) 0)) (connectionRead f (connectionsAt f + 3 * i)) a e) where
-      cell : Cell (kOf f) (trackAt (jobOf f .tracks) (getD q i 0)) (connectionAt (jobOf f .connections) i) a e
-      cell = cell-read f heads (g .facts) o (getD q i 0) low high i going-connection a e c
-
-      -- the test by marks is that of the routings
-      test : fitsRun marks (getD q i 0) a e ≡ (routings (jobOf f)) .ok (take i q) (getD q i 0)
-      test = run-ok (jobOf f) (job-valid f (g .facts)) (take i q) (i, marks) (getD q i 0) a e (g .kept) short low labelled cell
-
-      pub going-among : Among (getD q i 0) a e
-      going-among = among (jobOf f) (job-valid f (g .facts)) i (getD q i 0) a e low labelled cell
-
-      -- what `fits_run` answered, where the code asks `!fits_run`
-      module _ (r : Bool) (answer : r ≡ fitsRun marks (getD q i 0) a e) where
-        pub going-shut : not r ≡ true → Searched (RoutingKept f q) (i + 1)
-        going-shut s = breaks h (λ k. let y = sym (kept-fits (jobOf f) q i h k) ∙ sym test ∙ sym answer ∙ not-true r s in let z : _≡_ {A = ℕ} 0 1 = cc in omega arith)
-
-        fits : not r ≡ false → fitsRun marks (getD q i 0) a e ≡ true
-        fits s = sym answer ∙ not-false r s
-
-        pub going-open : not r ≡ false → a ≤ e
-        going-open s = run-open marks (getD q i 0) a e (fits s)
-
-        pub going-on : not r ≡ false → (next : List ℕ) → next ≡ takenRun marks (getD q i 0) a e i → Going f q next (i + 1)
-        unfolding routings
-        going-on s next n =
-            record {
-              facts = g .facts;
-              many = g .many;
-              within = omega arith;
-              kept = rw (n, ← take-next (jobOf f) q i h) (run-next (jobOf f) (job-valid f (g .facts)) (take i q) (i, marks) (getD q i 0) a e (g .kept) short low labelled cell (fits s));
-            }
+  going-high h l = breaks h (λ k. omega (arith, k .label .1, job-numbers f .t-is))
 
   -- all are passed
   pub going-last : length q ≤ i → Searched (RoutingKept f q) 0
   going-last h = all-keep refl (λ x l. passed x (omega (arith, g .many, g .within)) l)
+
+module _ {f q marks : List ℕ} {i : ℕ} (k : Asked f q marks i) where
+  g : Going f q marks i
+  g = k .going
+
+  short : length (take i q) < M (jobOf f)
+  short = omega (arith, length-take-le i q (g .within), g .many, k .inside, job-numbers f .m-is)
+
+  labelled : getD q i 0 ≤ T (jobOf f)
+  labelled = omega (arith, k .high, t-is g)
+
+  -- the connection is one of the file's
+  pub asked-connection : i < mOf f
+  asked-connection = omega (arith, g .many, k .inside)
+
+  -- the cell that was read for it
+  module _ {a e : ℕ} (cell : Cell (kOf f) (trackAt (jobOf f .tracks) (getD q i 0)) (connectionAt (jobOf f .connections) i) a e) where
+    -- the test by marks is that of the routings
+    test : fitsRun marks (getD q i 0) a e ≡ (routings (jobOf f)) .ok (take i q) (getD q i 0)
+    test = run-ok (jobOf f) (job-valid f (g .facts)) (take i q) (i, marks) (getD q i 0) a e (g .kept) short (k .low) labelled cell
+
+    pub asked-among : Among (getD q i 0) a e
+    asked-among = among (jobOf f) (job-valid f (g .facts)) i (getD q i 0) a e (k .low) labelled cell
+
+    -- what `fits_run` answered, where the code asks `!fits_run`
+    module _ {r : Bool} (answer : r ≡ fitsRun marks (getD q i 0) a e) where
+      pub asked-shut : not r ≡ true → Searched (RoutingKept f q) (i + 1)
+      asked-shut s = breaks g (k .inside) (λ h. let y = sym (kept-fits (jobOf f) q i (k .inside) h) ∙ sym test ∙ sym answer ∙ not-true r s in let z : _≡_ {A = ℕ} 0 1 = cc in omega arith)
+
+      fits : not r ≡ false → fitsRun marks (getD q i 0) a e ≡ true
+      fits s = sym answer ∙ not-false r s
+
+      pub asked-open : not r ≡ false → a ≤ e
+      asked-open s = run-open marks (getD q i 0) a e (fits s)
+
+      pub asked-on : not r ≡ false → (next : List ℕ) → next ≡ takenRun marks (getD q i 0) a e i → Going f q next (i + 1)
+      unfolding routings
+      asked-on s next n =
+          record {
+            facts = g .facts;
+            many = g .many;
+            within = omega (arith, k .inside);
+            kept = rw (n, ← take-next (jobOf f) q i (k .inside)) (run-next (jobOf f) (job-valid f (g .facts)) (take i q) (i, marks) (getD q i 0) a e (g .kept) short (k .low) labelled cell (fits s));
+          }

@@ -8,7 +8,7 @@ ghost use mathlib.Core.Path.{_≡_};
 ghost use lib.ListN.{length};
 ghost use Rattle.refusals.specs.Table.{Searched};
 ghost use Rattle.jobfile.specs.Rows.{tOf, mOf};
-ghost use Rattle.jobfile.specs.Reads.{Facts};
+ghost use Rattle.jobfile.specs.Facts.{Facts};
 ghost use Rattle.judge.specs.Judges.{RoutingKept, Judges};
 
 // What brought labels are: a legal routing of the file's job, or refused by a row of the table at a place.
@@ -36,8 +36,7 @@ fn bad_label(file: &[u8], tracks: u8, labels: &[u8]) -> usize
         if tracks < label {
             return number;
         }
-        let code = channel::code_of(Label(label));
-        let run = occupancy::bounds_at(file, heads[wide(code.0)], i);
+        let run = occupancy::bounds_on(file, &heads, Label(label), i);
         let first = wide(run.first);
         let last = wide(run.last);
         if !marks::fits_run(&marks, Label(label), first, last) {

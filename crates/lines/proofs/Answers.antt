@@ -21,8 +21,9 @@ use Rattle.places.specs.Table.{tableGrid}
 use Rattle.places.proofs.Tabled.{tabled-clauses}
 use Rattle.lines.specs.declared.Answer.{Answer}
 use Rattle.lines.specs.declared.Answer.the-variants.{Line, Refused}
-use Rattle.lines.specs.Lined.{mostLine, textOf, Lined}
-use Rattle.lines.specs.Writes.{lineRows, Writes}
+use Rattle.lines.specs.Lined.{mostLine, textOf}
+use Rattle.lines.specs.OverTable.{Lined}
+use Rattle.lines.specs.Writes.{lineRows, WritesLine}
 
 -- the file's rows stand before 9 and 10
 pub file-early : (f : List ℕ) (x p : ℕ) → fileRows f x p → line x ≤ 4
@@ -67,7 +68,7 @@ module _ (f old : List ℕ) (number : ℕ) where
       count-same = ap length clauses-same
 
       -- the line, or row 10
-      pub answered : (r : Answer) (new : List ℕ) → Lined (tableGrid runs t m′) number old r new → Writes f number old r new
+      pub answered : (r : Answer) (new : List ℕ) → Lined (tableGrid runs t m′) number old r new → WritesLine f number old r new
       answered (Line c) new h =
           let e = count-same in
           let l = h .0 in

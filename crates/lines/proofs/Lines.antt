@@ -7,14 +7,13 @@ use lib.ListN.{length}
 use Rattle.text.specs.Text.{Wrote}
 use Rattle.channel.specs.Limits.{mostTracks, mostConnections}
 use Rattle.clauses.specs.Clauses.{clausesOf}
-use Rattle.clauses.proofs.Width.{bitsFor-is}
 use Rattle.places.specs.declared.Place.{Place}
 use Rattle.places.specs.declared.Place.the-variants.{One, Two, Past}
-use Rattle.places.specs.Places.{clauseAt, placesOf, Tells, Within, Sized}
+use Rattle.places.specs.Places.{clauseAt, placesOf, FoundAt, Within, Sized}
 use Rattle.places.specs.Table.{tableGrid}
-use Rattle.places.proofs.Walk.{Here, Ended, here-hit, ended-short}
 use Rattle.places.proofs.Sizes.{few-codes}
-use Rattle.places.proofs.Places.{length-places, clause-at, place-within, within-more}
+use Rattle.places.proofs.Places.{length-places, clause-at, place-within}
+use Rattle.places.proofs.Finding.{Here, Ended, here-hit, ended-short}
 use Rattle.dimacs.specs.Lines.{clauseText, headerText}
 use Rattle.lines.specs.Lined.{textOf}
 
@@ -22,10 +21,10 @@ above-zero : (n : ℕ) → ((n ≡ 0) → ⊥) → 1 ≤ n
 above-zero n e = omega arith
 
 -- no clause is put down for a number behind the end
-pub past-within : {A : Type 0} (m : ℕ) (x : Place) → Ended x → Within m x → A
-past-within m (One i c) o h = absurd (omega arith)
-past-within m (Two h i c) o g = absurd (omega arith)
-past-within m (Past k) o h = absurd h
+pub past-within : {A : Type 0} (x : Place) → Ended x → Within x → A
+past-within (One i c) o h = absurd (omega arith)
+past-within (Two h i c) o g = absurd (omega arith)
+past-within (Past k) o h = absurd h
 
 module _ (runs : List ℕ) (t m n w top : ℕ) (s : Sized t w top) where
   -- line 0
@@ -34,12 +33,11 @@ module _ (runs : List ℕ) (t m n w top : ℕ) (s : Sized t w top) where
   zeroth old new c r e f h =
       (omega arith, subst (λ l. Wrote old 0 l new r) ((λ z. headerText (m * s .bits z) ((f ∙ length-places (tableGrid runs t m)) z)) ∙ ap (textOf (tableGrid runs t m)) (sym e)) h)
 
-  module _ (p : Place) (e : (n ≡ 0) → ⊥) (h : Tells (placesOf (tableGrid runs t m)) (n - 1) p) where
+  module _ (p : Place) (e : (n ≡ 0) → ⊥) (h : FoundAt (placesOf (tableGrid runs t m)) (n - 1) p) where
     -- the place that was found is within the limits
-    pub found-within : t ≤ mostTracks → m ≤ mostConnections → Here p → Within mostConnections p
+    pub found-within : t ≤ mostTracks → m ≤ mostConnections → Here p → Within p
     found-within a b o =
-        within-more m mostConnections p b
-        (place-within (tableGrid runs t m) (few-codes t (omega arith)) (bitsFor-is t .enough) b (n - 1) p (here-hit (placesOf (tableGrid runs t m)) (n - 1) p o h))
+        place-within (tableGrid runs t m) b (few-codes t (omega arith)) (n - 1) p (here-hit (placesOf (tableGrid runs t m)) (n - 1) p o h)
 
     -- its clause is line n
     pub found : (old new : List ℕ) (r : ℕ) → Here p → Wrote old 0 (clauseText (clauseAt w p)) new r → (n ≤ length (clausesOf (tableGrid runs t m))) × Wrote old 0 (textOf (tableGrid runs t m) n) new r

@@ -1,4 +1,4 @@
--- Every line has at most 62 bytes; so what is written stands in front, and the rest of the buffer stays. Assumes nothing.
+-- No line is longer than `mostLine`; so what is written stands in front, and the rest of the buffer stays. Assumes nothing.
 use mathlib.Core.Path.{_≡_, refl}
 use mathlib.Core.Logic.{_⊎_, inl, inr, ⊎-elim}
 use mathlib.Core.Bool.{Bool, true, false, cond}
@@ -13,11 +13,10 @@ use Rattle.channel.specs.Channel.{Job, T}
 use Rattle.dimacs.specs.Clause.{Literal, Clause}
 use Rattle.dimacs.specs.Lines.{literalText, literalsText, clauseText, pcnf, headerText}
 use Rattle.clauses.specs.Clauses.{Grid, gridOf, widthOf, clausesOf}
-use Rattle.clauses.proofs.Width.{bitsFor-is}
 use Rattle.clauses.proofs.Order.{clause-length}
-use Rattle.places.specs.Places.{mostBits}
+use Rattle.places.proofs.Sizes.{few-bits}
 use Rattle.lines.specs.Lined.{mostLine, textOf, lineText}
-use Rattle.lines.specs.Writes.{Written}
+use Rattle.lines.specs.Writes.{WrittenLine}
 
 literal-short : (l : Literal) → length (literalText l) ≤ 4
 unfolding literalText
@@ -58,13 +57,13 @@ entry [] n = inr refl
 entry (c ∷ cs) zero = inl (List·Memᴰ·head refl)
 entry (c ∷ cs) (suc n) = ⊎-elim (λ m. inl (List·Memᴰ·tail m)) (λ e. inr e) (entry cs n)
 
--- a line of at most 36 tracks has at most 62 bytes
+-- a line of at most `mostTracks` tracks
 pub text-short : (g : Grid) → g .tracks ≤ mostTracks → (n : ℕ) → length (textOf g n) ≤ mostLine
 unfolding textOf
 text-short g h zero = let a = header-short (g .connections * widthOf g) (length (clausesOf g)) in omega arith
 text-short g h (suc n) =
     let c = getD (clausesOf g) n [] in
-    let w = bitsFor-is (g .tracks) .least mostBits (omega arith) (omega arith) in
+    let w = few-bits (g .tracks) (omega arith) in
     let a = clause-short c in
     ⊎-elim (λ (m : List·Memᴰ c (clausesOf g)). let b = clause-length g c m in omega arith) (λ (e : length c ≡ 0). omega arith) (entry (clausesOf g) n)
 
@@ -72,7 +71,7 @@ pub line-short : (j : Job) → T j ≤ mostTracks → (n : ℕ) → length (line
 line-short j h n = text-short (gridOf j) h n
 
 -- the line stands in front, its length is returned, and the rest stays
-pub written-front : (f : List ℕ) (number : ℕ) (old new : List ℕ) (k : ℕ) (w : Written f number old new k) → (k ≡ length (lineText (w .job) number)) × (new ≡ lineText (w .job) number ++ drop (length (lineText (w .job) number)) old)
+pub written-front : (f : List ℕ) (number : ℕ) (old new : List ℕ) (k : ℕ) (w : WrittenLine f number old new k) → (k ≡ length (lineText (w .job) number)) × (new ≡ lineText (w .job) number ++ drop (length (lineText (w .job) number)) old)
 written-front f number old new k w =
     let l = line-short (w .job) (w .of-file .valid .limits .t-high) number in
     let r = w .room in

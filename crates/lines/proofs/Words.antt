@@ -4,17 +4,18 @@ use mathlib.Core.Bool.{Bool, true, false, cond}
 use mathlib.Core.List.{List, [], _∷_, _++_, append-assoc, append-nil}
 use Prim.Native.Nat.{ℕ, zero, suc, _+_, _*_, _-_, _/_, _≤_, _<_}
 use native.Mathlib.Omega.{arith}
-use native.Mathlib.Nat.{mul-le-mul}
+use native.Mathlib.Nat.{suc-mul}
 use native.Mathlib.Numerals.{sub-one}
 use Rattle.text.specs.Text.{Wrote, digits}
-use Rattle.channel.specs.Limits.{mostConnections}
+use Rattle.channel.specs.Limits.{mostConnections, mostBits, mostVariables}
 use Rattle.channel.specs.declared.Code.{Code}
 use Rattle.dimacs.specs.Clause.{Literal, Clause}
 use Rattle.dimacs.specs.Lines.{literalText, literalsText, clauseText}
 use Rattle.clauses.specs.Clauses.{odd, forbid, bar}
+use Rattle.clauses.proofs.Width.{variables-few}
 use Rattle.places.specs.declared.Place.{Place}
 use Rattle.places.specs.declared.Place.the-variants.{One, Two}
-use Rattle.places.specs.Places.{clauseAt, mostBits}
+use Rattle.places.specs.Places.{clauseAt}
 
 -- one literal
 pub literal-plain : (b : Bool) (v : ℕ) → b ≡ false → literalText (record { variable = v; negated = b }) ≡ digits 2 v
@@ -43,13 +44,9 @@ literals-more (suc k) v c z =
     ∙ ap (λ t. literalsText (forbid k v (c / 2)) ++ t) (append-nil (literalText (record { variable = v + k; negated = odd c }) ++ (32 ∷ [])))
     ∙ sym (append-assoc (literalsText (forbid k v (c / 2))) (literalText (record { variable = v + k; negated = odd c })) (32 ∷ [])))
 
--- a connection's first variable
-pub first-variable : (i w : ℕ) → i < mostConnections → w ≤ mostBits → i * w ≤ 378
-first-variable i w h g = mul-le-mul {n₁ = i} {m₁ = w} {n₂ = 63} {m₂ = mostBits} (omega arith) g
-
--- how many variables there are
-pub variables-few : (m w : ℕ) → m ≤ mostConnections → w ≤ mostBits → m * w ≤ 384
-variables-few m w h g = mul-le-mul {n₁ = m} {m₁ = w} {n₂ = mostConnections} {m₂ = mostBits} h g
+-- a connection's last variable
+pub last-variable : (i w : ℕ) → i < mostConnections → w ≤ mostBits → i * w + w ≤ mostVariables
+last-variable i w h g = let z = variables-few (suc i) w h g in let s = suc-mul i w in omega arith
 
 one-line : (w i : ℕ) (c : Code) → clauseText (clauseAt w (One i c)) ≡ literalsText (bar w i (c .0)) ++ (48 ∷ 10 ∷ [])
 unfolding clauseText clauseAt

@@ -1,3 +1,4 @@
 pub mod Lined
 pub mod Writes
 pub mod Export
+pub mod OverTable

@@ -18,7 +18,7 @@ abbrev pub lineRows : List ℕ → ℕ → ℕ → Rows
 lineRows f lent number = fileRows f or roomRow mostLine lent or row 10 (nowhere (clauseCount (jobOf f) < number))
 
 -- line `number` of the file's job is written from the front, k bytes long, and the rest stays
-pub record Written (f : List ℕ) (number : ℕ) (old new : List ℕ) (k : ℕ) : Type 0 where
+pub record WrittenLine (f : List ℕ) (number : ℕ) (old new : List ℕ) (k : ℕ) : Type 0 where
   pub job : Job
   pub of-file : FileOf f job
   pub room : mostLine ≤ length old
@@ -26,6 +26,6 @@ pub record Written (f : List ℕ) (number : ℕ) (old new : List ℕ) (k : ℕ) 
   pub wrote : Wrote old 0 (lineText job number) new k
 
 -- document 01's number and values for each answer; a refusal changes no byte
-abbrev pub Writes : List ℕ → ℕ → List ℕ → Answer → List ℕ → Type 0
-Writes f number old (Line k) new = Written f number old new k
-Writes f number old (Refused num place) new = Refuses (lineRows f (length old) number) num place × (new ≡ old)
+abbrev pub WritesLine : List ℕ → ℕ → List ℕ → Answer → List ℕ → Type 0
+WritesLine f number old (Line k) new = WrittenLine f number old new k
+WritesLine f number old (Refused num place) new = Refuses (lineRows f (length old) number) num place × (new ≡ old)

@@ -4,16 +4,17 @@ ghost use mathlib.Core.List.{[], _∷_};
 ghost use Prim.Native.Nat.{_+_, _-_, _*_, _≤_, _<_};
 ghost use lib.ListN.{length};
 ghost use Rattle.text.specs.Text.{Wrote};
-ghost use Rattle.channel.specs.Limits.{mostTracks, mostConnections};
+ghost use Rattle.channel.specs.Limits.{mostTracks, mostConnections, mostBits, mostValues};
 ghost use Rattle.dimacs.specs.Lines.{literalText, literalsText, clauseText, headerText};
 ghost use Rattle.clauses.specs.Clauses.{forbid, bar};
-ghost use Rattle.places.specs.Places.{clauseAt, Within, mostBits};
+ghost use Rattle.places.specs.Places.{clauseAt, Within};
 ghost use Rattle.places.specs.Table.{tableGrid};
-ghost use Rattle.lines.specs.Lined.{mostLine, Lined};
-ghost use Rattle.lines.specs.Writes.{Writes};
+ghost use Rattle.lines.specs.Lined.{mostLine};
+ghost use Rattle.lines.specs.OverTable.{Lined};
+ghost use Rattle.lines.specs.Writes.{WritesLine};
 
-// The most bytes of a line, LF included.
-pub const MOST_LINE: usize = 62;
+// The most bytes of a line, LF included, as specs/Lined.antt has it.
+pub const MOST_LINE: usize = 2 * channel::MOST_BITS * 5 + 2;
 
 // A line of so many bytes, or refused by a row of the table at a place.
 pub enum Answer {
@@ -35,17 +36,17 @@ fn put_literal(buf: &mut [u8], at: usize, variable: usize, negated: bool) -> usi
 }
 
 // The literals that forbid a code of k bits, each with a blank behind it: at most five bytes each. The highest bit comes first.
-fn put_literals(buf: &mut [u8], at: usize, k: u8, variable: usize, code: u8) -> usize
+fn put_literals(buf: &mut [u8], at: usize, k: u8, variable: usize, code: channel::Code) -> usize
     requires { ⌜ at + 5 * k ≤ length (now buf) ⌝ }
-    requires { ⌜ variable + k ≤ 1000 ⌝ }
-    ensures { λ r. ⌜ Wrote (now (buf .entry)) at (literalsText (forbid k variable code)) (now (buf .exit)) r ⌝ }
+    requires { ⌜ variable + k ≤ mostValues ⌝ }
+    ensures { λ r. ⌜ Wrote (now (buf .entry)) at (literalsText (forbid k variable (code .0))) (now (buf .exit)) r ⌝ }
     ensures { λ r. ⌜ r ≤ at + 5 * k ⌝ }
 {
     if k == 0 {
         return at;
     }
-    let next = put_literals(buf, at, k - 1, variable, code / 2);
-    let end = put_literal(buf, next, variable + (k - 1) as usize, code % 2 == 1);
+    let next = put_literals(buf, at, k - 1, variable, channel::Code(code.0 / 2));
+    let end = put_literal(buf, next, variable + (k - 1) as usize, code.0 % 2 == 1);
     text::put(buf, end, 32)
 }
 
@@ -57,7 +58,7 @@ fn put_bar(buf: &mut [u8], at: usize, w: u8, i: usize, c: channel::Code) -> usiz
     ensures { λ r. ⌜ Wrote (now (buf .entry)) at (literalsText (bar w i (c .0))) (now (buf .exit)) r ⌝ }
     ensures { λ r. ⌜ r ≤ at + 5 * w ⌝ }
 {
-    put_literals(buf, at, w, i * w as usize + 1, c.0)
+    put_literals(buf, at, w, i * w as usize + 1, c)
 }
 
 // The end of a clause line: `0` and LF.
@@ -73,7 +74,7 @@ fn put_end(buf: &mut [u8], at: usize) -> usize
 fn put_clause(buf: &mut [u8], w: u8, p: places::Place) -> usize
     requires { ⌜ mostLine ≤ length (now buf) ⌝ }
     requires { ⌜ w ≤ mostBits ⌝ }
-    requires { ⌜ Within mostConnections p ⌝ }
+    requires { ⌜ Within p ⌝ }
     ensures { λ r. ⌜ Wrote (now (buf .entry)) 0 (clauseText (clauseAt w p)) (now (buf .exit)) r ⌝ }
 {
     match p {
@@ -127,7 +128,7 @@ fn line_of(runs: &[u8; occupancy::TABLE], t: u8, m: usize, n: usize, buf: &mut [
 
 // Line `number` of the job file, 0 to C, written into the buffer from the front; or refused, and no byte of the buffer changes.
 pub fn line(file: &[u8], number: usize, buffer: &mut [u8]) -> Answer
-    ensures { λ r. ⌜ Writes (now (file .entry)) number (now (buffer .entry)) r (now (buffer .exit)) ⌝ }
+    ensures { λ r. ⌜ WritesLine (now (file .entry)) number (now (buffer .entry)) r (now (buffer .exit)) ⌝ }
 {
     match jobfile::read_job(file) {
         jobfile::Read::Refused { number: row, place } => Answer::Refused {

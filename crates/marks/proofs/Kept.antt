@@ -1,25 +1,25 @@
 -- The search by marks is the search by routings: a mark tells whether its segment is occupied, and by whom. Assumes nothing.
 use mathlib.Core.Path.{_≡_, refl, sym, ap, subst, _∙_}
 use mathlib.Core.Bool.{Bool, true, false, _&&_, not}
-use mathlib.Core.Logic.{⊎-elim}
 use mathlib.Core.List.{List, [], _∷_, _++_}
 use Prim.Native.Nat.{ℕ, zero, suc, _+_, _-_, _≤_, _<_}
-use native.Mathlib.Nat.{eq-or-lt-of-le, le-of-suc-le-suc, not-suc-le-zero}
+use native.Mathlib.Nat.{not-suc-le-zero}
 use native.Mathlib.Omega.{arith}
 use borrow.Author.Tests.{eqb-true, eqb-false, not-true, le-ltb, leb-true, le-leb}
 use lib.Dec.{eqb, leb}
 use lib.ListN.{length, getD, length-append, replicate, List·getD-append}
 use lib.Seq.{getD-append-seam}
+use Rattle.facts.proofs.Bools.{and-left, and-right, and-both, false-by, both, iff, not-both}
 use Rattle.search.specs.Tree.{place}
-use Rattle.search.proofs.Settling.{and-left, and-right, and-both}
 use Rattle.search.proofs.Same.{same-place}
 use Rattle.channel.specs.Limits.{mostSegments}
-use Rattle.channel.specs.Channel.{Job, T, M, segments, occupied, anyTo, share, collide, trackAt, connectionAt, Barred, Collide}
+use Rattle.channel.specs.Channel.{Job, T, M, segments, occupied, share, collide, trackAt, connectionAt, Barred, Collide}
 use Rattle.channel.specs.Valid.{Valid}
 use Rattle.channel.specs.Routing.{Legal, clash, routings}
-use Rattle.channel.proofs.Says.{snoc, or-left, or-right, or-both, apart-says, apart-is, nil-legal, more}
+use Rattle.channel.proofs.Says.{snoc, apart-says, apart-is, nil-legal, more}
 use Rattle.channel.proofs.Validity.{each-at}
 use Rattle.occupancy.specs.Runs.{Run, Cell, Tabled}
+use Rattle.occupancy.proofs.Intervals.{any-at, any-some}
 use Rattle.marks.specs.Marking.{markBytes, base, free, allFree, fill, fitsRun, takenRun, Among, first, last, Inside, fitsIn, takenIn, marking}
 use Rattle.marks.proofs.Laws.{all-free-says, all-free-is, run-open, fill-length, fill-off, fill-at, zeros}
 
@@ -42,40 +42,14 @@ pub record Kept (j : Job) (p : List ℕ) (s : ℕ × List ℕ) : Type 0 where
   pub legal : Legal j p
   pub marks : (l k : ℕ) → 1 ≤ l → l ≤ T j → k < segments (trackAt (j .tracks) l) → Owned j p l k (getD (s .1) (base l + k) 0)
 
-tf : (b : Bool) → b ≡ true → b ≡ false → ⊥
-tf b e f = let z : _≡_ {A = ℕ} 0 1 = cc in omega arith
-
-iff : (a b : Bool) → (a ≡ true → b ≡ true) → (b ≡ true → a ≡ true) → a ≡ b
-iff true b f g = sym (f refl)
-iff false true f g = g refl
-iff false false f g = refl
-
-false-by : (b : Bool) → (b ≡ true → ⊥) → b ≡ false
-false-by true h = absurd (h refl)
-false-by false h = refl
-
-any-says : (f : ℕ → Bool) (n : ℕ) → anyTo f n ≡ false → (k : ℕ) → k < n → f k ≡ false
-unfolding anyTo
-any-says f zero e k h = absurd (not-suc-le-zero h)
-any-says f (suc n) e k h =
-    ⊎-elim
-    (λ (q : k ≡ n). ap f q ∙ or-right (anyTo f n) _ e)
-    (λ (q : k < n). any-says f n (or-left (anyTo f n) _ e) k q)
-    (eq-or-lt-of-le (le-of-suc-le-suc h))
-
-any-is : (f : ℕ → Bool) (n : ℕ) → ((k : ℕ) → k < n → f k ≡ false) → anyTo f n ≡ false
-unfolding anyTo
-any-is f zero h = refl
-any-is f (suc n) h = or-both (anyTo f n) _ (any-is f n (λ k l. h k (omega arith))) (h n (omega arith))
-
 -- what collides, by segments
 apart-at : (j : Job) (h i l k : ℕ) → Collide j h i l ≡ false → k < segments (trackAt (j .tracks) l) → takes j h l k ≡ true → takes j i l k ≡ true → ⊥
 unfolding collide share
-apart-at j h i l k e n a b = tf _ (and-both (takes j h l k) _ a b) (any-says _ _ e k n)
+apart-at j h i l k e n a b = not-both (any-at _ _ k n (and-both a b)) e
 
 apart-by : (j : Job) (h i l : ℕ) → ((k : ℕ) → k < segments (trackAt (j .tracks) l) → takes j h l k ≡ true → takes j i l k ≡ true → ⊥) → Collide j h i l ≡ false
 unfolding collide share
-apart-by j h i l f = any-is _ _ (λ k n. false-by _ (λ y. f k n (and-left (takes j h l k) _ y) (and-right (takes j h l k) _ y)))
+apart-by j h i l f = false-by (λ e. let s = any-some _ _ e in let y = both (takes j h l (s .0)) _ (s .2) in f (s .0) (s .1) (y .0) (y .1))
 
 -- the state at first
 pub kept-nil : (j : Job) → Kept j [] (0, replicate markBytes 0)
@@ -119,7 +93,7 @@ module _ (j : Job) (v : Valid j) where
             let d : base l + x + (g - x) ≡ base l + g = omega arith in
             let fr = all-free-says (s .1) (base l + x) (y + 1 - x) e (g - x) (omega arith) in
             let zero-mark = eqb-true _ 0 (ap (λ (x : ℕ). free (getD (s .1) x 0)) (sym d) ∙ fr) in
-            tf _ u ((k .marks l g a b t) .none zero-mark h n w)))
+            not-both u ((k .marks l g a b t) .none zero-mark h n w)))
 
         of-clash : (Barred j (s .0) l ≡ false) → clash j (s .0) l 0 p ≡ false → allFree (s .1) (base l + x) (y + 1 - x) ≡ true
         of-clash o e =
@@ -131,7 +105,7 @@ module _ (j : Job) (v : Valid j) where
             let w : g < cuts j l = omega arith in
             let lo = le-leb x g (omega arith) in
             let hi = le-leb g y (omega arith) in
-            let tk = r .is g w ∙ and-both (leb x g) _ lo hi in
+            let tk = r .is g w ∙ and-both lo hi in
             let q : base l + x + d ≡ base l + g = omega arith in
             ap (λ (x : ℕ). free (getD (s .1) x 0)) q ∙ mark-free (getD (s .1) (base l + g) 0) g w (k .marks l g a b w) tk e)
           where
@@ -144,7 +118,7 @@ module _ (j : Job) (v : Valid j) where
 
         go : (z : Bool) → Barred j (s .0) l ≡ z → (not (Barred j (s .0) l) && allFree (s .1) (base l + x) (y + 1 - x)) ≡ (not (Barred j (s .0) l) && not (clash j (s .0) l 0 p))
         go true e = (λ i. not (e i) && allFree (s .1) (base l + x) (y + 1 - x)) ∙ (λ i. not (sym e i) && not (clash j (s .0) l 0 p))
-        go false e = ap (λ x. not (Barred j (s .0) l) && x) (iff _ (not (clash j (s .0) l 0 p)) (λ f. ap not (free-of e f)) (λ f. of-clash e (not-true _ f)))
+        go false e = ap (λ x. not (Barred j (s .0) l) && x) (iff (λ f. ap not (free-of e f)) (λ f. of-clash e (not-true _ f)))
 
     -- one mark, when connection s .0 + 1 is placed on l
     owned-next : (m g : ℕ) → x ≤ y → 1 ≤ m → m ≤ T j → g < segments (trackAt (j .tracks) m) → Owned j (p ++ (l ∷ [])) m g (getD (fill (s .0 + 1) (s .1) (base l + x) (y + 1 - x)) (base m + g) 0)
@@ -201,7 +175,7 @@ module _ (j : Job) (v : Valid j) where
                 keep _ (fill-off (s .0 + 1) (s .1) (base l + x) (y + 1 - x) (base m + g) (λ h w u.
                 let lo = le-leb x g (omega arith) in
                 let hi = le-leb g y (omega arith) in
-                tf _ (r .is g n′ ∙ and-both (leb x g) _ lo hi) t)) (λ z. ap (λ (u : ℕ). takes j (s .0) u g) (sym z) ∙ t)
+                not-both (r .is g n′ ∙ and-both lo hi) t)) (λ z. ap (λ (u : ℕ). takes j (s .0) u g) (sym z) ∙ t)
 
     -- the state after a label that fits
     pub run-next : fitsRun (s .1) l x y ≡ true → Kept j ((routings j) .next p l) (s .0 + 1, takenRun (s .1) l x y (s .0))

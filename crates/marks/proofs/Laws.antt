@@ -1,6 +1,6 @@
 -- Laws of the marks: a run that is free, a run that is filled. Assumes nothing.
 use mathlib.Core.Path.{_≡_, refl, sym, ap, _∙_}
-use mathlib.Core.Bool.{Bool, true, false, not}
+use mathlib.Core.Bool.{true, false, not}
 use mathlib.Core.Logic.{⊎-elim}
 use mathlib.Core.List.{List}
 use Prim.Native.Nat.{ℕ, zero, suc, _+_, _≤_, _<_}
@@ -11,7 +11,7 @@ use borrow.Author.Tests.{not-true, ltb-false}
 use lib.Dec.{ltb}
 use lib.ListN.{length, getD, set, length-set, replicate}
 use lib.Seq.{getD-set-same, getD-set-other}
-use Rattle.search.proofs.Settling.{and-left, and-right, and-both}
+use Rattle.facts.proofs.Bools.{and-left, and-right, and-both, false-by, not-both}
 use Rattle.marks.specs.Marking.{free, allFree, fill, fitsRun, first, last, fitsIn}
 
 -- a run is free: each of its marks is
@@ -27,20 +27,16 @@ all-free-says marks at (suc n) e k h =
 pub all-free-is : (marks : List ℕ) (at n : ℕ) → ((k : ℕ) → k < n → free (getD marks (at + k) 0) ≡ true) → allFree marks at n ≡ true
 unfolding allFree
 all-free-is marks at zero h = refl
-all-free-is marks at (suc n) h = and-both (allFree marks at n) _ (all-free-is marks at n (λ k l. h k (omega arith))) (h n (omega arith))
+all-free-is marks at (suc n) h = and-both (all-free-is marks at n (λ k l. h k (omega arith))) (h n (omega arith))
 
 -- one mark more
 pub all-free-next : (marks : List ℕ) (at n : ℕ) → allFree marks at n ≡ true → free (getD marks (at + n) 0) ≡ true → allFree marks at (n + 1) ≡ true
 unfolding allFree
-all-free-next marks at n h e = ap (allFree marks at) (add-one n) ∙ and-both (allFree marks at n) _ h e
+all-free-next marks at n h e = ap (allFree marks at) (add-one n) ∙ and-both h e
 
 -- one mark that is taken
 pub all-free-fails : (marks : List ℕ) (at n k : ℕ) → k < n → free (getD marks (at + k) 0) ≡ false → allFree marks at n ≡ false
-all-free-fails marks at n k h e = go (allFree marks at n) refl
-  where
-    go : (x : Bool) → allFree marks at n ≡ x → x ≡ false
-    go true a = sym (all-free-says marks at n a k h) ∙ e
-    go false a = refl
+all-free-fails marks at n k h e = false-by (λ a. not-both (all-free-says marks at n a k h) e)
 
 pub fill-length : (v : ℕ) (marks : List ℕ) (at n : ℕ) → length (fill v marks at n) ≡ length marks
 unfolding fill

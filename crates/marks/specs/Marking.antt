@@ -1,5 +1,5 @@
--- The marks of taken segments, one for each track and segment: 0, or the number of the connection that took it. A stepping stone: the law `by-marking`
--- says that a search by marks is a search through the legal partial routings. Assumes nothing: these are definitions.
+-- Stepping stones: the marks of taken segments, one for each track and segment: 0, or the number of the connection that took it. `by-marking`
+-- (proofs/Kept.antt) says that a search by marks is a search through the legal partial routings. Assumes nothing: these are definitions.
 use mathlib.Core.Bool.{Bool, true, _&&_, not}
 use mathlib.Core.List.{List}
 use Prim.Native.Nat.{ℕ, zero, suc, _+_, _*_, _-_, _≤_, _<_}

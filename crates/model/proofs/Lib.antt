@@ -1,4 +1,3 @@
 pub mod Walking
 pub mod Coding
-pub mod Beyond
 pub mod Meaning

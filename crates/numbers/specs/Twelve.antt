@@ -20,7 +20,7 @@ pub record RoutesNone (j : Job) (n : ℕ) : Type 0 where
   pub need : Need j n
 
 -- the lines of a job, 0 to C, are these
-pub record Lines (j : Job) (ls : List (List ℕ)) : Type 0 where
+pub record LinesAre (j : Job) (ls : List (List ℕ)) : Type 0 where
   pub counted : length ls ≡ clauseCount j + 1
   pub each : (n : ℕ) → n < length ls → lineText j n ≡ getD ls n []
 
@@ -56,4 +56,4 @@ pub record Twelve : Type 0 where
   pub n11 : RoutesNone (jobA 1) 6
   -- T = 1, N = 6, one segment, K = 1, connection 1–6: routing 1, need 1, lines `p cnf 1 1`, `-1 0`
   pub n12 : RoutesFirst jobOne (1 ∷ []) 1
-  pub n12-lines : Lines jobOne (line1 ∷ line2 ∷ [])
+  pub n12-lines : LinesAre jobOne (line1 ∷ line2 ∷ [])

@@ -5,19 +5,20 @@ use mathlib.Core.Logic.{inl, inr}
 use Prim.Native.Nat.{ℕ, zero, suc, _+_, _-_, _*_, _≤_, _<_}
 use native.Mathlib.Omega.{arith}
 use native.Mathlib.Nat.{zero-add}
-use native.Mathlib.Decide.{decLt, ℕ-discrete}
+use native.Mathlib.Decide.{decLe, ℕ-discrete}
 use lib.ListN.{length, take}
 use lib.Seq.{take-append-seam}
+use denote.Ref.{RefT, now}
+use Rattle.facts.proofs.Bools.{sure}
 use Rattle.refusals.specs.Table.{Passes}
 use Rattle.text.proofs.Writing.{front}
 use Rattle.channel.specs.Valid.{TrackRule, ConnectionRule, Valid}
 use Rattle.jobfile.specs.Rows.{connectionRead, ConnectionKept}
 use Rattle.jobfile.specs.Reads.{Reads, Hands}
-use Rattle.jobfile.specs.Reads.{Part as Handed}
 use Rattle.jobfile.specs.declared.Read.{Read}
 use Rattle.jobfile.specs.declared.Read.the-variants as read
 use Rattle.jobfile.proofs.Decode.{tab-length, tab-each}
-use Rattle.jobfile.proofs.Exact.{round-trip}
+use Rattle.jobfile.proofs.Exact.{round-trip, hands-job}
 use Rattle.part.specs.declared.Written.the-variants as variant
 use Rattle.part.specs.Part.{Part, tracksIn, trackOf, jobOfPart, PartRule}
 use Rattle.part.specs.P1.{p1}
@@ -26,40 +27,26 @@ use Rattle.part.proofs.Table.{p1-rule}
 use Rattle.part.proofs.Sections.{connections-bytes}
 
 -- a fact on numbers that cannot fail holds
-sure-le : (a b : ℕ) → ((a ≤ b → ⊥) → ⊥) → a ≤ b
-sure-le a b h = go (decLt b a)
-  where
-    go : Dec (b < a) → a ≤ b
-    go (yes l) = absurd (h (λ m. omega arith))
-    go (no n) = omega arith
-
-sure-eq : (a b : ℕ) → ((a ≡ b → ⊥) → ⊥) → a ≡ b
-sure-eq a b h = go (ℕ-discrete a b)
-  where
-    go : Dec (a ≡ b) → a ≡ b
-    go (yes e) = e
-    go (no n) = absurd (h n)
-
 sure-takes : (n t size k : ℕ) → ((Takes n t size k → ⊥) → ⊥) → Takes n t size k
 sure-takes n t size k h = record {
-  whole = sure-eq _ _ (λ f. h (λ g. f (g .whole)));
+  whole = sure (ℕ-discrete _ _) (λ f. h (λ g. f (g .whole)));
   limits = record {
-    n-low = sure-le _ _ (λ f. h (λ g. f (g .limits .n-low)));
-    n-high = sure-le _ _ (λ f. h (λ g. f (g .limits .n-high)));
-    t-low = sure-le _ _ (λ f. h (λ g. f (g .limits .t-low)));
-    t-high = sure-le _ _ (λ f. h (λ g. f (g .limits .t-high)));
-    m-high = sure-le _ _ (λ f. h (λ g. f (g .limits .m-high)));
-    k-low = sure-le _ _ (λ f. h (λ g. f (g .limits .k-low)));
-    k-high = sure-le _ _ (λ f. h (λ g. f (g .limits .k-high)));
+    n-low = sure (decLe _ _) (λ f. h (λ g. f (g .limits .n-low)));
+    n-high = sure (decLe _ _) (λ f. h (λ g. f (g .limits .n-high)));
+    t-low = sure (decLe _ _) (λ f. h (λ g. f (g .limits .t-low)));
+    t-high = sure (decLe _ _) (λ f. h (λ g. f (g .limits .t-high)));
+    m-high = sure (decLe _ _) (λ f. h (λ g. f (g .limits .m-high)));
+    k-low = sure (decLe _ _) (λ f. h (λ g. f (g .limits .k-low)));
+    k-high = sure (decLe _ _) (λ f. h (λ g. f (g .limits .k-high)));
   };
 }
 
 sure-kept : (f : List ℕ) (n e m i : ℕ) → ((ConnectionKept f n e m i → ⊥) → ⊥) → ConnectionKept f n e m i
 sure-kept f n e m i h l = record {
-  low = sure-le _ _ (λ x. h (λ g. x (g l .low)));
-  order = sure-le _ _ (λ x. h (λ g. x (g l .order)));
-  high = sure-le _ _ (λ x. h (λ g. x (g l .high)));
-  marked = sure-le _ _ (λ x. h (λ g. x (g l .marked)));
+  low = sure (decLe _ _) (λ x. h (λ g. x (g l .low)));
+  order = sure (decLe _ _) (λ x. h (λ g. x (g l .order)));
+  high = sure (decLe _ _) (λ x. h (λ g. x (g l .high)));
+  marked = sure (decLe _ _) (λ x. h (λ g. x (g l .marked)));
 }
 
 module _ (p : Part) (bytes : List ℕ) (k : ℕ) (passes : Passes (partRows p bytes k)) where
@@ -92,7 +79,7 @@ module _ (p : Part) (rule : PartRule p) (bytes : List ℕ) (k : ℕ) (old new : 
 
   -- the file fits the buffer
   pub file-room : length (fileOf p bytes k) ≤ length old
-  file-room = sure-le _ _ (λ h. w .0 9 0 (inr (refl, (omega arith, refl))))
+  file-room = sure (decLe _ _) (λ h. w .0 9 0 (inr (refl, (omega arith, refl))))
 
   -- what stands in front of the buffer is the file
   pub written-file : take size new ≡ fileOf p bytes k
@@ -109,16 +96,12 @@ module _ (p : Part) (rule : PartRule p) (bytes : List ℕ) (k : ℕ) (old new : 
       round-trip (jobOfPart p (connectionsOf bytes) k) v r (subst (λ f. Reads f r) written-file g) ∙ (λ i. read.Job (p .columns) (t i) (m i) k)
 
   -- and the part of it that holds the connections is the bytes that were given
-  pub hands-back : (part : List ℕ) → Hands (take size new) part → part ≡ bytes
-  hands-back part h = go (h .answer) (reads-back (h .answer) (h .reads)) (h .handed)
-    where
-      go : (r : Read) → r ≡ read.Job (p .columns) (tracksIn (p .table)) (countOf bytes) k → Handed (take size new) r part → part ≡ bytes
-      go (read.Job a b c d) e g = g (jobOfPart p (connectionsOf bytes) k) written-file ∙ connections-bytes bytes (passes-takes p bytes k part-passes .whole)
-      go (read.Refused a b) e g = absurd (let z : _≡_ {A = ℕ} 0 1 = cc e in omega arith)
+  pub hands-back : (f part : RefT (List ℕ)) → now f ≡ take size new → Hands f part → now part ≡ bytes
+  hands-back f part e h = hands-job f part h (jobOfPart p (connectionsOf bytes) k) (record { valid = part-valid p bytes k part-passes rule; file = e ∙ written-file }) ∙ connections-bytes bytes (passes-takes p bytes k part-passes .whole)
 
 -- of P1: N = 30, T = 8
 pub p1-back : (bytes : List ℕ) (k : ℕ) (old new : List ℕ) (size : ℕ) → Writes p1 bytes k old (variant.File size) new → (r : Read) → Reads (take size new) r → r ≡ read.Job 30 8 (countOf bytes) k
 p1-back bytes k old new size w = reads-back p1 p1-rule bytes k old new size w
 
-pub p1-connections-back : (bytes : List ℕ) (k : ℕ) (old new : List ℕ) (size : ℕ) → Writes p1 bytes k old (variant.File size) new → (part : List ℕ) → Hands (take size new) part → part ≡ bytes
+pub p1-connections-back : (bytes : List ℕ) (k : ℕ) (old new : List ℕ) (size : ℕ) → Writes p1 bytes k old (variant.File size) new → (f part : RefT (List ℕ)) → now f ≡ take size new → Hands f part → now part ≡ bytes
 p1-connections-back bytes k old new size w = hands-back p1 p1-rule bytes k old new size w

@@ -1,8 +1,9 @@
 -- The rule of a part's table: what the one computed test says at each entry and of each column, and that P1's table passes it. Assumes nothing.
 use mathlib.Core.Path.{_≡_, refl, ap, sym, subst, _∙_}
-use mathlib.Core.Bool.{Bool, true, false, cond, _&&_, _||_}
+use mathlib.Core.Bool.{Bool, true, false, cond}
 use mathlib.Core.List.{List, [], _∷_}
 use mathlib.Core.Logic.{_↔_}
+use mathlib.Mathlib.Data.Bool.Basic.{or-inr}
 use Prim.Native.Nat.{ℕ, zero, suc, _+_, _-_, _≤_, _<_}
 use native.Mathlib.Nat.{add-zero, zero-add}
 use native.Mathlib.Omega.{arith}
@@ -11,30 +12,14 @@ use lib.Dec.{leb, eqb}
 use lib.ListN.{length, getD, drop, length-drop}
 use lib.Seq.{getD-take, getD-drop, length-take-le}
 use borrow.Author.Tests.{eqb-true, leb-true, eq-eqb}
+use Rattle.facts.specs.Same.{same}
+use Rattle.facts.proofs.Bools.{and-left, and-right, one-most, not-both}
+use Rattle.facts.proofs.Same.{same-true}
 use Rattle.channel.specs.Limits.{mostColumns, mostTracks, mostSegments}
 use Rattle.jobfile.specs.Rows.{tab}
 use Rattle.channel.specs.Valid.{Rising}
-use Rattle.part.specs.Part.{Table, tracksIn, startOf, segmentsOf, endsOf, tracksOf, columnsThat, same, isEnd, trackFollows, tracksFollow, follows, Cut, PartRule}
+use Rattle.part.specs.Part.{Table, tracksIn, startOf, segmentsOf, endsOf, tracksOf, columnsThat, isEnd, trackFollows, tracksFollow, follows, Cut, PartRule}
 use Rattle.part.specs.P1.{p1, p1Rule, p1Length}
-
-and-left : (a b : Bool) → (a && b) ≡ true → a ≡ true
-and-left true b h = refl
-and-left false b h = h
-
-and-right : (a b : Bool) → (a && b) ≡ true → b ≡ true
-and-right true b h = h
-and-right false b h = absurd (let z : _≡_ {A = ℕ} 0 1 = cc in omega arith)
-
-or-right : (a b : Bool) → b ≡ true → (a || b) ≡ true
-or-right true b h = refl
-or-right false b h = h
-
-same-is : (xs ys : List ℕ) → same xs ys ≡ true → xs ≡ ys
-unfolding same
-same-is [] [] h = refl
-same-is [] (y ∷ ys) h = absurd (let z : _≡_ {A = ℕ} 0 1 = cc in omega arith)
-same-is (x ∷ xs) [] h = absurd (let z : _≡_ {A = ℕ} 0 1 = cc in omega arith)
-same-is (x ∷ xs) (y ∷ ys) h = let e = eqb-true x y (and-left (eqb x y) (same xs ys) h) in let r = same-is xs ys (and-right (eqb x y) (same xs ys) h) in λ i. e i ∷ r i
 
 module _ (f : ℕ → Bool) where
   -- each of them is a column that passes
@@ -60,7 +45,7 @@ module _ (f : ℕ → Bool) where
           → (b : Bool) → f c ≡ b → Dec (c ≡ x) → (s : ℕ) × (s < length (cond b (c ∷ columnsThat f k (suc c)) (columnsThat f k (suc c)))) × (getD (cond b (c ∷ columnsThat f k (suc c)) (columnsThat f k (suc c))) s 0 ≡ x)
       go rest true e (yes q) = (0, omega arith, q)
       go rest true e (no n) = let r = rest (omega arith) in (suc (r .0), omega (arith, r .1), r .2)
-      go rest false e (yes q) = absurd (let z : true ≡ false = sym h ∙ ap f (sym q) ∙ e in let y : _≡_ {A = ℕ} 0 1 = cc in omega arith)
+      go rest false e (yes q) = not-both h (ap f (sym q) ∙ e)
       go rest false e (no n) = rest (omega arith)
 
   -- they rise to the last of the columns, if that one passes
@@ -75,14 +60,14 @@ module _ (f : ℕ → Bool) where
       go rest true q = (l, rest c (omega arith))
       go rest false q = rest prev (omega arith)
 
+-- a track's right ends, as many as its segments
+pub track-long : (b : Table) (t : ℕ) → startOf b (t + 1) ≤ length (b .ends) → length (endsOf b t) ≡ segmentsOf b t
+track-long b t l = length-take-le (segmentsOf b t) (drop (startOf b t) (b .ends)) (rw length-drop (omega arith))
+
 rising-some : (n : ℕ) (es : List ℕ) → 1 ≤ n → Rising n 0 es → 1 ≤ length es
 unfolding Rising
 rising-some n [] h r = absurd (omega arith)
 rising-some n (e ∷ es) h r = omega arith
-
-flagged : (b : Bool) → cond b 1 0 ≤ 1
-flagged true = omega arith
-flagged false = omega arith
 
 module _ (n : ℕ) (rule : ℕ → ℕ → Bool) (b : Table) where
   each-follows : (k t : ℕ) → tracksFollow n rule b k t ≡ true → (u : ℕ) → t ≤ u → u < t + k → trackFollows n rule b u ≡ true
@@ -125,7 +110,7 @@ module _ (n : ℕ) (rule : ℕ → ℕ → Bool) (b : Table) where
     -- the right ends of a track are the columns that the rule names
     pub track-ends : (t : ℕ) → t < tracksIn b → endsOf b t ≡ columnsThat (isEnd n rule t) n 1
     unfolding trackFollows
-    track-ends t l = same-is (endsOf b t) _ (and-right (leb (segmentsOf b t) mostSegments) _ (and-right (leb (startOf b t) (startOf b (t + 1))) _ (track-follows t l)))
+    track-ends t l = same-true (endsOf b t) _ (and-right (leb (segmentsOf b t) mostSegments) _ (and-right (leb (startOf b t) (startOf b (t + 1))) _ (track-follows t l)))
 
     rise-by : (d t : ℕ) → t + d ≤ tracksIn b → startOf b t ≤ startOf b (t + d)
     rise-by zero t l = rw add-zero (omega arith)
@@ -142,8 +127,8 @@ module _ (n : ℕ) (rule : ℕ → ℕ → Bool) (b : Table) where
         let a = rise-by (tracksIn b - t) t (omega arith) in
         omega (arith, a, ap (startOf b) e, starts-last)
 
-    track-long : (t : ℕ) → t < tracksIn b → length (endsOf b t) ≡ segmentsOf b t
-    track-long t l = length-take-le (segmentsOf b t) (drop (startOf b t) (b .ends)) (rw length-drop (omega (arith, starts-within (t + 1) (omega arith))))
+    long : (t : ℕ) → t < tracksIn b → length (endsOf b t) ≡ segmentsOf b t
+    long t l = track-long b t (starts-within (t + 1) (omega arith))
 
     -- the lemma at each entry: it is a column of the part that the rule names
     pub entry-rule : (t s : ℕ) → t < tracksIn b → s < segmentsOf b t
@@ -151,14 +136,14 @@ module _ (n : ℕ) (rule : ℕ → ℕ → Bool) (b : Table) where
     entry-rule t s l m =
         let e : getD (columnsThat (isEnd n rule t) n 1) s 0 ≡ getD (b .ends) (startOf b t + s) 0 =
         ap (λ z. getD z s 0) (sym (track-ends t l)) ∙ getD-take (segmentsOf b t) (drop (startOf b t) (b .ends)) s 0 m ∙ getD-drop (startOf b t) (b .ends) s 0 in
-        let r = columns-pass (isEnd n rule t) n 1 s (omega (arith, ap length (track-ends t l), track-long t l)) in
+        let r = columns-pass (isEnd n rule t) n 1 s (omega (arith, ap length (track-ends t l), long t l)) in
         (omega (arith, r .0), omega (arith, r .1), ap (isEnd n rule t) (sym e) ∙ r .2)
 
     -- and each column that the rule names is an entry
     pub column-entry : (t c : ℕ) → t < tracksIn b → 1 ≤ c → c ≤ n → isEnd n rule t c ≡ true → (s : ℕ) × (s < segmentsOf b t) × (getD (b .ends) (startOf b t + s) 0 ≡ c)
     column-entry t c l low high q =
         let r = columns-reach (isEnd n rule t) n 1 c low (omega arith) q in
-        let m : r .0 < segmentsOf b t = omega (arith, r .1, ap length (track-ends t l), track-long t l) in
+        let m : r .0 < segmentsOf b t = omega (arith, r .1, ap length (track-ends t l), long t l) in
         (r .0, m, sym (getD-drop (startOf b t) (b .ends) (r .0) 0) ∙ sym (getD-take (segmentsOf b t) (drop (startOf b t) (b .ends)) (r .0) 0 m) ∙ ap (λ z. getD z (r .0) 0) (track-ends t l) ∙ r .2)
 
     -- so column c is a right end of the track with code t exactly if the rule names it
@@ -171,7 +156,7 @@ module _ (n : ℕ) (rule : ℕ → ℕ → Bool) (b : Table) where
     track-rises low t l =
         let e : n ≡ suc (n - 1) = omega arith in
         rw (track-ends t l) (subst (λ k. Rising n 0 (columnsThat (isEnd n rule t) k 1)) (sym e)
-        (columns-rise (isEnd n rule t) (n - 1) 1 0 n (omega arith) (omega arith) (or-right (rule t n) _ (eq-eqb n n refl))))
+        (columns-rise (isEnd n rule t) (n - 1) 1 0 n (omega arith) (omega arith) (or-inr (rule t n) _ (eq-eqb n n refl))))
 
     pub cut-whole : 1 ≤ tracksIn b → tracksIn b ≤ mostTracks → Cut b
     cut-whole some few = record { some = some; few = few; first = starts-first; last = starts-last; rises = starts-rise; within = starts-within; narrow = segments-few }
@@ -181,7 +166,7 @@ module _ (n : ℕ) (rule : ℕ → ℕ → Bool) (b : Table) where
       low = low;
       high = high;
       cut = cut-whole some few;
-      tracks = λ t l. record { some = rising-some n (endsOf b t) low (track-rises low t l); few = omega (arith, track-long t l, segments-few t l); flagged = flagged (leb (b .plain) t); rises = track-rises low t l };
+      tracks = λ t l. record { some = rising-some n (endsOf b t) low (track-rises low t l); few = omega (arith, long t l, segments-few t l); flagged = one-most (leb (b .plain) t); rises = track-rises low t l };
     }
 
 -- P1's table follows its rule: computed over the whole table

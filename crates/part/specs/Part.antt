@@ -1,11 +1,12 @@
 -- Document 01, "House part P1": a part by its numbers and its table of right ends, the job that it gives, and the rule of its table. P1 is one value of it.
 -- Assumes nothing: these are definitions.
 use mathlib.Core.Path.{_≡_}
-use mathlib.Core.Bool.{Bool, true, false, cond, _&&_, _||_}
+use mathlib.Core.Bool.{Bool, cond, _&&_, _||_}
 use mathlib.Core.List.{List, [], _∷_}
 use Prim.Native.Nat.{ℕ, zero, suc, _+_, _-_, _≤_, _<_}
 use lib.Dec.{leb, eqb}
 use lib.ListN.{length, getD, take, drop}
+use Rattle.facts.specs.Same.{same}
 use Rattle.channel.specs.Limits.{mostColumns, mostTracks, mostSegments}
 use Rattle.channel.specs.Channel.{Track, Connection, Job}
 use Rattle.channel.specs.Valid.{TrackRule}
@@ -63,13 +64,6 @@ jobOfPart p cs k = record { columns = p .columns; tracks = tracksOf (p .table); 
 unfoldable pub columnsThat : (ℕ → Bool) → ℕ → ℕ → List ℕ
 columnsThat f zero c = []
 columnsThat f (suc k) c = cond (f c) (c ∷ columnsThat f k (suc c)) (columnsThat f k (suc c))
-
--- two lists of numbers are the same
-unfoldable pub same : List ℕ → List ℕ → Bool
-same [] [] = true
-same [] (y ∷ ys) = false
-same (x ∷ xs) [] = false
-same (x ∷ xs) (y ∷ ys) = eqb x y && same xs ys
 
 -- the rule of a table over n columns: `rule t c` says whether column c is a right end of the track with code t; the last column always is
 module _ (n : ℕ) (rule : ℕ → ℕ → Bool) where

@@ -6,10 +6,10 @@ ghost use mathlib.Core.Bool.{cond};
 ghost use Prim.Native.Nat.{_+_, _-_, _*_, _≤_, _<_};
 ghost use lib.Dec.{leb};
 ghost use lib.ListN.{length};
+ghost use Rattle.facts.specs.Tells.{Tells};
 ghost use Rattle.text.specs.Text.{Wrote};
-ghost use Rattle.refusals.specs.Tells.{Tells};
 ghost use Rattle.channel.specs.Limits.{mostSegments};
-ghost use Rattle.jobfile.specs.File.{trackBytes, all, two, trailerBytes};
+ghost use Rattle.jobfile.specs.File.{trackBytes, joined, two, trailerBytes};
 ghost use Rattle.part.specs.Part.{Cut, PartRule, tableOf, partOf, tracksOf};
 ghost use Rattle.part.specs.P1.{p1};
 ghost use Rattle.part.specs.Writes.{Takes, Writes, fileOf};
@@ -101,7 +101,7 @@ fn put_track(buf: &mut [u8], at: usize, flag: u8, ends: &[u8]) -> usize
 fn put_tracks(buf: &mut [u8], plain: usize, starts: &[usize], ends: &[u8]) -> usize
     requires { ⌜ Cut (tableOf plain (now starts) (now ends)) ⌝ }
     requires { ⌜ 2 * (length (now starts) - 1) + length (now ends) ≤ length (now buf) ⌝ }
-    ensures { λ r. ⌜ Wrote (now (buf .entry)) 0 (all trackBytes (tracksOf (tableOf plain (now (starts .entry)) (now (ends .entry))))) (now (buf .exit)) r ⌝ }
+    ensures { λ r. ⌜ Wrote (now (buf .entry)) 0 (joined trackBytes (tracksOf (tableOf plain (now (starts .entry)) (now (ends .entry))))) (now (buf .exit)) r ⌝ }
 {
     let mut t = 0;
     let mut at = 0;

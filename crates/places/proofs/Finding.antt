@@ -1,54 +1,79 @@
--- The place with a number, found group by group; and a number behind the last, which tells how many there are. Assumes nothing.
-use mathlib.Core.Path.{_≡_, subst}
-use mathlib.Core.List.{List}
-use Prim.Native.Nat.{ℕ, _+_, _-_, _^_, _≤_}
+-- The place with a number: the row in which it lies, and its code there; and what is told of a number, by the variant of the place. Assumes nothing.
+use mathlib.Core.Path.{_≡_, sym, ap, _∙_, subst}
+use mathlib.Core.Logic.{⊎-elim}
+use mathlib.Core.Bool.{true}
+use mathlib.Core.List.{List, [], _∷_, _++_}
+use Prim.Native.Nat.{ℕ, zero, suc, _+_, _^_, _≤_, _<_}
 use native.Mathlib.Omega.{arith}
-use lib.ListN.{length}
+use native.Mathlib.Decide.{decLt}
+use lib.ListN.{length, getD, length-append}
+use lib.Seq.{getD-at}
+use types.Run.{OneOf}
+use denote.Enum.Declared.{tagOf}
 use Rattle.channel.specs.Limits.{mostTracks, mostConnections}
-use Rattle.clauses.specs.Clauses.{each, bitsFor}
-use Rattle.clauses.proofs.Width.{bitsFor-is}
+use Rattle.clauses.specs.Clauses.{bitsFor}
 use Rattle.places.specs.declared.Place.{Place}
 use Rattle.places.specs.declared.Place.the-variants.{One, Two, Past}
-use Rattle.places.specs.Places.{Tells, beyondOf, barsOf, rowOf, placesOf, Sized}
-use Rattle.places.specs.Table.{shut, due, tableGrid, manyClauses}
-use Rattle.places.proofs.Walk.{Here, no-place, tells-ahead, tells-behind}
+use Rattle.places.specs.declared.Row.{Row}
+use Rattle.places.specs.declared.Spot.{Spot}
+use Rattle.places.specs.Places.{placeAt, placesOf, placesBefore, Hit, FoundAt}
+use Rattle.places.specs.Table.{tableGrid, forbiddenIn, tableRow, manyClauses}
+use Rattle.places.specs.Rows.{LiesIn, NthIn}
+use Rattle.places.proofs.Place.{the-type}
 use Rattle.places.proofs.Sizes.{few-codes}
-use Rattle.places.proofs.Places.{places-few}
+use Rattle.places.proofs.Rows.{before-end, row-room, places-few, place-split}
 
-module _ (runs : List ℕ) (t m n w top : ℕ) (s : Sized t w top) (p : Place) (h : Tells (each m (beyondOf t (top - t))) n p) where
-  group-1 : Tells (each m (beyondOf t (2 ^ bitsFor t - t))) n p
-  group-1 = subst (λ k. Tells (each m (beyondOf t (k - t))) n p) (s .power) h
+-- the place of a code that is forbidden in a row, by its number
+pub hit-here : (runs : List ℕ) (t m : ℕ) (row : Row) → row .stage < m + 2 → row .i < m → (c : ℕ) → c < 2 ^ bitsFor t → forbiddenIn runs t row c ≡ true → (n : ℕ) → length (placesBefore (tableGrid runs t m) row) + length (tableRow runs t row c) ≡ n → Hit (placesOf (tableGrid runs t m)) n (placeAt (row .stage) (row .i) c)
+hit-here runs t m row u v c l e n h =
+    let front = placesBefore (tableGrid runs t m) row ++ tableRow runs t row c in let x = placeAt (row .stage) (row .i) c in
+    let r = place-split runs t row m u v c l e in
+    let long = length-append (placesBefore (tableGrid runs t m) row) (tableRow runs t row c) in
+    let all = ap length (r .1) ∙ length-append front (x ∷ r .0) in
+    record { inside = omega arith; is = ap (λ y. getD y n (Past 0)) (r .1) ∙ getD-at front x (r .0) (Past 0) n (omega arith) }
 
-  pub in-group-1 : Here p → Tells (placesOf (tableGrid runs t m)) n p
-  unfolding placesOf
-  in-group-1 o = tells-ahead (each m (beyondOf t (2 ^ bitsFor t - t))) _ n p o group-1
+found-hit : (l : List Place) (n s i c : ℕ) → Hit l n (placeAt s i c) → FoundAt l n (placeAt s i c)
+unfolding placeAt
+found-hit l n zero i c h = h
+found-hit l n (suc zero) i c h = h
+found-hit l n (suc (suc k)) i c h = h
 
-  module _ (k : ℕ) (e : p ≡ Past k) (q : Place) (g : Tells (each m (barsOf (shut runs) t)) k q) where
-    past-1 : length (each m (beyondOf t (2 ^ bitsFor t - t))) + k ≡ n
-    past-1 = subst (Tells (each m (beyondOf t (2 ^ bitsFor t - t))) n) e group-1
+module _ (runs : List ℕ) (t m n : ℕ) (spot : Spot) (h : LiesIn (tableGrid runs t m) n spot) where
+  -- in a row: the place of its code
+  pub found-in : spot .row .i < m → (c : ℕ) → NthIn runs t (spot .row) (spot .rest) c → (x : Place) → x ≡ placeAt (spot .row .stage) (spot .row .i) c → FoundAt (placesOf (tableGrid runs t m)) n x
+  found-in l c g x e =
+      let a = g .nth in let b = h .passed in
+      subst (FoundAt (placesOf (tableGrid runs t m)) n) (sym e) (found-hit (placesOf (tableGrid runs t m)) n (spot .row .stage) (spot .row .i) c (hit-here runs t m (spot .row) (h .on .stage) l c (g .below) (g .there) n (omega arith)))
 
-    pub in-group-2 : Here q → Tells (placesOf (tableGrid runs t m)) n q
-    unfolding placesOf
-    in-group-2 o = tells-behind (each m (beyondOf t (2 ^ bitsFor t - t))) _ n k past-1 q (tells-ahead (each m (barsOf (shut runs) t)) _ k q o g)
+  -- behind the last row
+  pub found-past : m ≤ spot .row .i → length (placesOf (tableGrid runs t m)) + spot .rest ≡ n
+  found-past l = let e = ap length (before-end (tableGrid runs t m) (spot .row) (h .on) l) in let p = h .passed in omega arith
 
-    pub in-group-3 : (r : ℕ) → q ≡ Past r → (x : Place) → Tells (each m (rowOf (due runs) t m)) r x → Tells (placesOf (tableGrid runs t m)) n x
-    unfolding placesOf due
-    in-group-3 r f x z =
-        tells-behind (each m (beyondOf t (2 ^ bitsFor t - t))) _ n k past-1 x
-        (tells-behind (each m (barsOf (shut runs) t)) _ k r (subst (Tells (each m (barsOf (shut runs) t)) k) f g) x z)
-
--- what the number of too many tells
-module _ (runs : List ℕ) (t m : ℕ) (a : t ≤ mostTracks) (b : m ≤ mostConnections) (x : Place) (h : Tells (placesOf (tableGrid runs t m)) manyClauses x) where
-  few : length (placesOf (tableGrid runs t m)) ≤ manyClauses
-  few = places-few (tableGrid runs t m) (few-codes t (omega arith)) (bitsFor-is t .enough) b a
-
-  pub none-there : {A : Type 0} → Here x → A
-  none-there o = absurd (go x h o)
+  -- what a number that is too high tells
+  pub many-past : t ≤ mostTracks → m ≤ mostConnections → n ≡ manyClauses → length (placesOf (tableGrid runs t m)) + spot .rest ≡ n
+  many-past a b e = go (decLt (spot .row .i) m)
     where
-      go : (y : Place) → Tells (placesOf (tableGrid runs t m)) manyClauses y → Here y → ⊥
-      go (One i c) g o = let f = few in let z = g .inside in omega arith
-      go (Two i j c) g o = let f = few in let z = g .inside in omega arith
-      go (Past k) g o = no-place o
+      go : Dec (spot .row .i < m) → length (placesOf (tableGrid runs t m)) + spot .rest ≡ n
+      go (yes l) =
+          let f = places-few (tableGrid runs t m) (few-codes t (omega arith)) b in
+          let r = row-room (tableGrid runs t m) (spot .row) (h .on .stage) l in
+          let p = h .passed in let k = h .inside l in
+          absurd (omega arith)
+      go (no l) = found-past (omega arith)
 
-  pub behind-last : (k : ℕ) → x ≡ Past k → length (placesOf (tableGrid runs t m)) + k ≡ manyClauses
-  behind-last k e = subst (Tells (placesOf (tableGrid runs t m)) manyClauses) e h
+-- a place, and no number behind the end: what a `match` that leaves out `Past` knows of it; and a number behind the end
+abbrev pub Here : Place → Type 0
+Here x = OneOf (0 ∷ 1 ∷ []) (tagOf the-type x)
+
+abbrev pub Ended : Place → Type 0
+Ended x = OneOf (2 ∷ []) (tagOf the-type x)
+
+pub here-hit : (l : List Place) (n : ℕ) (x : Place) → Here x → FoundAt l n x → Hit l n x
+here-hit l n (One i c) o g = g
+here-hit l n (Two h i c) o g = g
+here-hit l n (Past k) o g = absurd (⊎-elim (λ e. omega arith) (λ e. omega arith) o)
+
+pub ended-short : (l : List Place) (n : ℕ) (x : Place) → Ended x → FoundAt l n x → length l ≤ n
+ended-short l n (One i c) o g = absurd (omega arith)
+ended-short l n (Two h i c) o g = absurd (omega arith)
+ended-short l n (Past k) o g = omega arith

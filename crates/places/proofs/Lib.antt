@@ -1,6 +1,5 @@
-pub mod Walk
-pub mod Due
 pub mod Sizes
+pub mod Rows
 pub mod Places
 pub mod Finding
 pub mod Tabled

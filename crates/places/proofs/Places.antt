@@ -1,19 +1,36 @@
--- The clause list by its places: the clauses are those at the places, every place is within the limits, and there are not too many. Assumes nothing.
+-- The clause list by its places: the clauses are those at the places, and every place is within the limits. Assumes nothing.
 use mathlib.Core.Path.{_≡_, sym, ap, _∙_, subst}
-use mathlib.Core.Bool.{Bool, true, false}
-use mathlib.Core.List.{List, [], _∷_, _++_, map}
-use Prim.Native.Nat.{ℕ, zero, suc, _+_, _*_, _-_, _^_, _≤_, _<_}
+use mathlib.Core.Bool.{Bool, _&&_}
+use mathlib.Core.List.{[], _∷_, _++_, map}
+use Prim.Native.Nat.{ℕ, zero, suc, _+_, _-_, _^_, _≤_, _<_}
 use native.Mathlib.Omega.{arith}
-use native.Mathlib.Nat.{suc-mul, mul-le-mul, le-refl}
-use lib.ListN.{length, getD, length-append, length-map, List·getD-map}
-use Rattle.channel.specs.Limits.{mostTracks, mostConnections}
-use Rattle.channel.specs.Label.{code}
-use Rattle.clauses.specs.Clauses.{Grid, each, only, widthOf, beyond, bars, pairs, meets, clausesOf}
-use Rattle.clauses.proofs.Each.{length-each, map-append, map-each, map-only}
+use lib.Dec.{leb, ltb}
+use lib.ListN.{length, getD, length-map, List·getD-map}
+use borrow.Author.Tests.{lt-ltb, le-ltb, le-leb, lt-leb}
+use Rattle.channel.specs.Limits.{mostConnections, mostCodes}
+use Rattle.channel.proofs.Validity.{each-at}
+use Rattle.clauses.specs.Clauses.{Grid, joinTo, only, bar, widthOf, beyond, bars, pairs, meets, clausesOf}
+use Rattle.clauses.proofs.Joins.{join-same, join-front, join-sum, join-empty, join-cut, map-join, map-only}
+use Rattle.clauses.proofs.Width.{bitsFor-is}
 use Rattle.places.specs.declared.Place.{Place}
-use Rattle.places.specs.declared.Place.the-variants.{One, Two, Past}
-use Rattle.places.specs.Places.{clauseAt, beyondOf, barsOf, pairOf, rowOf, placesOf, Hit, Within, mostCodes}
-use Rattle.places.specs.Table.{manyClauses}
+use Rattle.places.specs.declared.Place.the-variants.{Past}
+use Rattle.places.specs.Places.{clauseAt, forbidden, placeAt, rowTo, rowOf, rowPlaces, stagePlaces, placesOf, Hit, Within}
+use Rattle.places.proofs.Rows.{all-places}
+
+-- codes from t on, and codes below t, as parts of the codes below t + n
+module _ {A : Type 0} (t n : ℕ) (b : ℕ → Bool) (x : ℕ → A) where
+  from-on : joinTo (t + n) (λ c. only (leb t c) (x c)) ≡ joinTo n (λ k. x (t + k) ∷ [])
+  unfolding only
+  from-on =
+      join-sum t n (λ c. only (leb t c) (x c))
+      ∙ (λ z. join-empty t (λ c. only (leb t c) (x c)) (λ c l. ap (λ v. only v (x c)) (lt-leb t c l)) z
+      ++ joinTo n (λ k. only (le-leb t (t + k) (omega arith) z) (x (t + k))))
+
+  only-below : joinTo (t + n) (λ c. only (ltb c t && b c) (x c)) ≡ joinTo t (λ c. only (b c) (x c))
+  unfolding only
+  only-below =
+      join-cut t n (λ c. only (ltb c t && b c) (x c)) (λ k. ap (λ v. only (v && b (t + k)) (x (t + k))) (le-ltb (t + k) t (omega arith)))
+      ∙ join-same t (λ c. only (ltb c t && b c) (x c)) (λ c. only (b c) (x c)) (λ c l. ap (λ v. only (v && b c) (x c)) (lt-ltb c t l))
 
 module _ (g : Grid) where
   abbrev w : ℕ
@@ -25,32 +42,39 @@ module _ (g : Grid) where
   abbrev m : ℕ
   m = g .connections
 
-  map-beyond : map (clauseAt w) (each m (beyondOf t (2 ^ w - t))) ≡ beyond g
-  unfolding beyond beyondOf clauseAt
-  map-beyond = map-each (clauseAt w) m (beyondOf t (2 ^ w - t)) ∙ (λ z. each m (λ i. map-each (clauseAt w) (2 ^ w - t) (λ k. One i (code (t + k)) ∷ []) z))
+  whole : 2 ^ w ≡ t + (2 ^ w - t)
+  whole = let e = bitsFor-is t .enough in omega arith
 
-  map-bars : map (clauseAt w) (each m (barsOf (g .barred) t)) ≡ bars g
-  unfolding bars barsOf clauseAt
-  map-bars =
-      map-each (clauseAt w) m (barsOf (g .barred) t)
-      ∙ (λ z. each m (λ i. map-each (clauseAt w) t (λ c. only (g .barred i c) (One i (code c))) z))
-      ∙ (λ z. each m (λ i. each t (λ c. map-only (clauseAt w) (g .barred i c) (One i (code c)) z)))
+  -- the clauses of a row, and of a stage
+  row-clauses : (s i : ℕ) → map (clauseAt w) (rowPlaces g (rowOf s i)) ≡ joinTo (t + (2 ^ w - t)) (λ c. only (forbidden t (g .barred) (meets g) s i c) (clauseAt w (placeAt s i c)))
+  unfolding rowPlaces rowTo
+  row-clauses s i =
+      map-join (clauseAt w) (2 ^ w) (λ c. only (forbidden t (g .barred) (meets g) s i c) (placeAt s i c))
+      ∙ (λ z. joinTo (whole z) (λ c. map-only (clauseAt w) (forbidden t (g .barred) (meets g) s i c) (placeAt s i c) z))
 
-  map-pairs : map (clauseAt w) (each m (rowOf (meets g) t m)) ≡ pairs g
-  unfolding pairs rowOf pairOf clauseAt
-  map-pairs =
-      map-each (clauseAt w) m (rowOf (meets g) t m)
-      ∙ (λ z. each m (λ h. map-each (clauseAt w) m (pairOf (meets g) t h) z))
-      ∙ (λ z. each m (λ h. each m (λ i. map-each (clauseAt w) t (λ c. only (meets g h i c) (Two h i (code c))) z)))
-      ∙ (λ z. each m (λ h. each m (λ i. each t (λ c. map-only (clauseAt w) (meets g h i c) (Two h i (code c)) z))))
+  stage-clauses : (s : ℕ) → map (clauseAt w) (stagePlaces g s) ≡ joinTo m (λ i. joinTo (t + (2 ^ w - t)) (λ c. only (forbidden t (g .barred) (meets g) s i c) (clauseAt w (placeAt s i c))))
+  unfolding stagePlaces
+  stage-clauses s = map-join (clauseAt w) m (λ i. rowPlaces g (rowOf s i)) ∙ (λ z. joinTo m (λ i. row-clauses s i z))
+
+  stage-0 : map (clauseAt w) (stagePlaces g 0) ≡ beyond g
+  unfolding beyond forbidden placeAt clauseAt
+  stage-0 = stage-clauses 0 ∙ (λ z. joinTo m (λ i. from-on t (2 ^ w - t) (g .barred i) (bar w i) z))
+
+  stage-1 : map (clauseAt w) (stagePlaces g 1) ≡ bars g
+  unfolding bars forbidden placeAt clauseAt
+  stage-1 = stage-clauses 1 ∙ (λ z. joinTo m (λ i. only-below t (2 ^ w - t) (g .barred i) (bar w i) z))
+
+  stage-pairs : (h : ℕ) → map (clauseAt w) (stagePlaces g (suc (suc h))) ≡ joinTo m (λ i. joinTo t (λ c. only (meets g h i c) (bar w h c ++ bar w i c)))
+  unfolding forbidden placeAt clauseAt
+  stage-pairs h = stage-clauses (suc (suc h)) ∙ (λ z. joinTo m (λ i. only-below t (2 ^ w - t) (meets g h i) (λ c. bar w h c ++ bar w i c) z))
 
   -- the clauses are those at the places
   pub map-places : map (clauseAt w) (placesOf g) ≡ clausesOf g
-  unfolding clausesOf placesOf
+  unfolding clausesOf placesOf pairs
   map-places =
-      map-append (clauseAt w) (each m (beyondOf t (2 ^ w - t))) _
-      ∙ ap (λ l. map (clauseAt w) (each m (beyondOf t (2 ^ w - t))) ++ l) (map-append (clauseAt w) (each m (barsOf (g .barred) t)) (each m (rowOf (meets g) t m)))
-      ∙ (λ z. map-beyond z ++ (map-bars z ++ map-pairs z))
+      map-join (clauseAt w) (suc (suc m)) (stagePlaces g)
+      ∙ join-front (suc m) (λ s. map (clauseAt w) (stagePlaces g s))
+      ∙ (λ z. stage-0 z ++ (join-front m (λ s. map (clauseAt w) (stagePlaces g (suc s))) ∙ (λ y. stage-1 y ++ joinTo m (λ h. stage-pairs h y))) z)
 
   -- as many as there are
   pub length-places : length (placesOf g) ≡ length (clausesOf g)
@@ -61,75 +85,13 @@ module _ (g : Grid) where
   unfolding clauseAt
   clause-at n x h = ap (λ l. getD l n []) (sym map-places) ∙ List·getD-map (clauseAt w) (placesOf g) n (Past 0) ∙ ap (clauseAt w) (h .is)
 
--- each entry of a list
-
-All : (Place → Type 0) → List Place → Type 0
-All P l = (n : ℕ) → n < length l → P (getD l n (Past 0))
-
-all-nil : (P : Place → Type 0) → All P []
-unfolding All
-all-nil P n h = absurd (omega arith)
-
-all-cons : (P : Place → Type 0) (x : Place) (l : List Place) → P x → All P l → All P (x ∷ l)
-unfolding All
-all-cons P x l p h zero g = p
-all-cons P x l p h (suc n) g = h n (omega arith)
-
-all-append : (P : Place → Type 0) (x y : List Place) → All P x → All P y → All P (x ++ y)
-unfolding All
-all-append P [] y h g = g
-all-append P (a ∷ x) y h g = all-cons P a (x ++ y) (h 0 (omega arith)) (all-append P x y (λ n l. h (suc n) (omega arith)) g)
-
-all-each : (P : Place → Type 0) (n : ℕ) (f : ℕ → List Place) → ((i : ℕ) → i < n → All P (f i)) → All P (each n f)
-unfolding each
-all-each P zero f h = all-nil P
-all-each P (suc n) f h = all-append P (each n f) (f n) (all-each P n f (λ i l. h i (omega arith))) (h n (omega arith))
-
-all-only : (P : Place → Type 0) (b : Bool) (x : Place) → P x → All P (only b x)
-unfolding only
-all-only P true x h = all-cons P x [] h (all-nil P)
-all-only P false x h = all-nil P
-
--- how many there can be
-
-each-bound : (f : ℕ → List Place) (b n : ℕ) → ((i : ℕ) → length (f i) ≤ b) → length (each n f) ≤ n * b
-unfolding each
-each-bound f b zero h = omega arith
-each-bound f b (suc n) h = let s = length-each f n in let m = suc-mul n b in let ih = each-bound f b n h in let z = h n in omega arith
-
-each-most : (f : ℕ → List Place) (b n top : ℕ) → n ≤ top → ((i : ℕ) → length (f i) ≤ b) → length (each n f) ≤ top * b
-each-most f b n top l h = let a = each-bound f b n h in let c = mul-le-mul {n₁ = n} {m₁ = b} {n₂ = top} {m₂ = b} l (le-refl b) in omega arith
-
-only-most : (b : Bool) (x : Place) → length (only b x) ≤ 1
-unfolding only
-only-most true x = omega arith
-only-most false x = omega arith
-
-module _ (g : Grid) (a : 2 ^ widthOf g ≤ mostCodes) (b : g .tracks ≤ 2 ^ widthOf g) (d : g .connections ≤ mostConnections) where
-  all-within : All (Within (g .connections)) (placesOf g)
-  unfolding placesOf beyondOf barsOf rowOf pairOf
-  all-within =
-      all-append _ _ _ (all-each _ (g .connections) _ (λ i l. all-each _ (2 ^ widthOf g - g .tracks) _ (λ k e. all-cons _ _ [] (l, omega arith) (all-nil _))))
-      (all-append _ _ _ (all-each _ (g .connections) _ (λ i l. all-each _ (g .tracks) _ (λ c e. all-only _ _ _ (l, omega arith))))
-      (all-each _ (g .connections) _ (λ h l. all-each _ (g .connections) _ (λ i k. all-each _ (g .tracks) _ (λ c e. all-only _ _ _ (l, k, omega arith))))))
-
   -- a place has connections and a code within the limits
-  pub place-within : (n : ℕ) (x : Place) → Hit (placesOf g) n x → Within (g .connections) x
-  unfolding All
-  place-within n x h = subst (Within (g .connections)) (h .is) (all-within n (h .inside))
+  module _ (few-connections : m ≤ mostConnections) (few-codes : 2 ^ w ≤ mostCodes) where
+    within-at : (s i c : ℕ) → s < m + 2 → i < m → c < 2 ^ w → Within (placeAt s i c)
+    unfolding placeAt
+    within-at zero i c l k e = (omega arith, omega arith)
+    within-at (suc zero) i c l k e = (omega arith, omega arith)
+    within-at (suc (suc h)) i c l k e = (omega arith, omega arith, omega arith)
 
-  -- there are not too many
-  pub places-few : g .tracks ≤ mostTracks → length (placesOf g) ≤ manyClauses
-  unfolding placesOf beyondOf barsOf rowOf pairOf
-  places-few e =
-      let u = length-append (each (g .connections) (beyondOf (g .tracks) (2 ^ widthOf g - g .tracks))) (each (g .connections) (barsOf (g .barred) (g .tracks)) ++ each (g .connections) (rowOf (meets g) (g .tracks) (g .connections))) in
-      let v = length-append (each (g .connections) (barsOf (g .barred) (g .tracks))) (each (g .connections) (rowOf (meets g) (g .tracks) (g .connections))) in
-      let x = each-most (beyondOf (g .tracks) (2 ^ widthOf g - g .tracks)) mostCodes (g .connections) mostConnections d (λ i. let z = each-most (λ k. One i (code (g .tracks + k)) ∷ []) 1 (2 ^ widthOf g - g .tracks) mostCodes (omega arith) (λ k. omega arith) in omega arith) in
-      let y = each-most (barsOf (g .barred) (g .tracks)) mostTracks (g .connections) mostConnections d (λ i. let z = each-most (λ c. only (g .barred i c) (One i (code c))) 1 (g .tracks) mostTracks e (λ c. only-most _ _) in omega arith) in
-      let q = each-most (rowOf (meets g) (g .tracks) (g .connections)) (mostConnections * mostTracks) (g .connections) mostConnections d (λ h. each-most (pairOf (meets g) (g .tracks) h) mostTracks (g .connections) mostConnections d (λ i. let z = each-most (λ c. only (meets g h i c) (Two h i (code c))) 1 (g .tracks) mostTracks e (λ c. only-most _ _) in omega arith)) in
-      omega arith
-
-pub within-more : (m m′ : ℕ) (x : Place) → m ≤ m′ → Within m x → Within m′ x
-within-more m m′ (One i c) l h = let a = h .0 in (omega arith, h .1)
-within-more m m′ (Two i j c) l h = let a = h .0 in let b = h .1 in (omega arith, omega arith, h .2)
-within-more m m′ (Past k) l h = h
+    pub place-within : (n : ℕ) (x : Place) → Hit (placesOf g) n x → Within x
+    place-within n x h = subst Within (h .is) (each-at Within (placesOf g) (Past 0) (all-places g Within within-at) n (h .inside))

@@ -6,9 +6,10 @@ use native.Mathlib.Omega.{arith}
 use native.Mathlib.Nat.{eq-or-lt-of-le, pow-succ'}
 use native.Mathlib.Numerals.{add-one}
 use lib.Pow.{pow-mono}
+use Rattle.channel.specs.Limits.{mostBits, mostCodes}
 use Rattle.clauses.specs.Clauses.{bitsFor}
 use Rattle.clauses.proofs.Width.{bitsFor-is}
-use Rattle.places.specs.Places.{mostBits, mostCodes, Sized}
+use Rattle.places.specs.Places.{Sized}
 
 -- no smaller number of bits will do
 pub record Low (t w top : ℕ) : Type 0 where
@@ -30,8 +31,12 @@ low-next t w top l h = record {
       (eq-or-lt-of-le (l .least v o g));
 }
 
-pub low-few : (t w top : ℕ) → t ≤ mostCodes → Low t w top → w ≤ mostBits
-low-few t w top h l = l .least mostBits (omega arith) (omega arith)
+-- t codes within the limit need no more than the most bits, and have no more than the most codes
+pub few-bits : (t : ℕ) → t ≤ mostCodes → bitsFor t ≤ mostBits
+few-bits t h = bitsFor-is t .least mostBits (omega arith) h
+
+pub few-codes : (t : ℕ) → t ≤ mostCodes → 2 ^ bitsFor t ≤ mostCodes
+few-codes t h = pow-mono {i = bitsFor t} {j = mostBits} (few-bits t h)
 
 pub low-done : (t w top : ℕ) → t ≤ mostCodes → Low t w top → t ≤ top → Sized t w top
 low-done t w top h l g =
@@ -40,12 +45,7 @@ low-done t w top h l g =
     let up = l .least (bitsFor t) (b .some) (b .enough) in
     let down = b .least w (l .some) (omega arith) in
     let e : w ≡ bitsFor t = omega arith in
-    let m = pow-mono {i = w} {j = mostBits} (low-few t w top h l) in
-    record { bits = e; power = i ∙ ap (λ k. 2 ^ k) e; few = low-few t w top h l; most = omega arith; room = g }
-
--- t codes within the limit have no more than that many codes
-pub few-codes : (t : ℕ) → t ≤ mostCodes → 2 ^ bitsFor t ≤ mostCodes
-few-codes t h =
-    let b = bitsFor-is t .least mostBits (omega arith) (omega arith) in
-    let m = pow-mono {i = bitsFor t} {j = mostBits} b in
-    omega arith
+    let power = i ∙ ap (λ k. 2 ^ k) e in
+    let few = few-bits t h in
+    let most = few-codes t h in
+    record { bits = e; power = power; few = omega arith; most = omega arith; room = g }

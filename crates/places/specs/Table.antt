@@ -1,14 +1,14 @@
--- A grid by the table of first and last occupied segments. Assumes nothing: these are definitions.
-use mathlib.Core.Path.{_≡_}
-use mathlib.Core.Logic.{_⊎_}
+-- Stepping stones: a grid by the table of first and last occupied segments, and its rows. `tabled-clauses` (proofs/Tabled.antt): its clauses are the job's. Assumes nothing: these are definitions.
 use mathlib.Core.Bool.{Bool}
 use mathlib.Core.List.{List}
-use Prim.Native.Nat.{ℕ, _+_, _*_, _≤_}
+use Prim.Native.Nat.{ℕ, _+_, _*_}
 use lib.Dec.{ltb}
-use Rattle.channel.specs.Limits.{mostTracks, mostConnections}
+use Rattle.channel.specs.Limits.{mostConnections, mostCodes}
 use Rattle.occupancy.specs.Runs.{meet, firstIn, lastIn}
 use Rattle.clauses.specs.Clauses.{Grid, meets}
-use Rattle.places.specs.Places.{mostCodes}
+use Rattle.places.specs.declared.Place.{Place}
+use Rattle.places.specs.declared.Row.{Row}
+use Rattle.places.specs.Places.{forbidden, rowTo}
 
 -- the code c is barred for connection i + 1: its last segment lies before its first
 abbrev pub shut : List ℕ → ℕ → ℕ → Bool
@@ -26,17 +26,13 @@ tableGrid runs t m = record { tracks = t; connections = m; barred = shut runs; c
 unfoldable pub due : List ℕ → ℕ → ℕ → ℕ → Bool
 due runs h i c = meets (tableGrid runs 0 0) h i c
 
--- more clauses than there can be: two groups of codes for each connection, and tracks for each two
+-- a row of the grid: whether a code is forbidden there, and the places with a code below n
+abbrev pub forbiddenIn : List ℕ → ℕ → Row → ℕ → Bool
+forbiddenIn runs t row = forbidden t (shut runs) (due runs) (row .stage) (row .i)
+
+abbrev pub tableRow : List ℕ → ℕ → Row → ℕ → List Place
+tableRow runs t = rowTo t (shut runs) (due runs)
+
+-- as many clauses as there can be at most, and more: a code for each row
 abbrev pub manyClauses : ℕ
-manyClauses = mostConnections * (mostCodes + mostTracks + mostConnections * mostTracks)
-
--- r is the later of two; the earlier of two
-pub record Later (a b r : ℕ) : Type 0 where
-  pub first : a ≤ r
-  pub second : b ≤ r
-  pub one : (r ≡ a) ⊎ (r ≡ b)
-
-pub record Earlier (a b r : ℕ) : Type 0 where
-  pub first : r ≤ a
-  pub second : r ≤ b
-  pub one : (r ≡ a) ⊎ (r ≡ b)
+manyClauses = (mostConnections + 2) * (mostConnections * mostCodes)

@@ -1,32 +1,44 @@
-// The places of a job's clauses, walked in the order of document 01, "Clause lines": the clause with a number, found by counting, and how many there are.
-// A walk goes over the table of first and last occupied segments. It carries how many places are still to be passed; a part of the list that
-// ends before them hands back the rest.
+// The places of a job's clauses, walked row by row in the order of document 01, "Clause lines": the clause with a number, and how many there are.
+// A row is a stage and a connection; its places are the codes that are forbidden there. Whoever goes over the clauses goes from row to row by `next_row`.
 ghost use mathlib.Core.Path.{_≡_};
-ghost use Prim.Native.Nat.{_+_, _-_, _*_, _≤_, _<_};
+ghost use Prim.Native.Nat.{_+_, _-_, _*_, _^_, _≤_, _<_};
 ghost use lib.ListN.{length};
 ghost use Rattle.channel.specs.Limits.{mostTracks, mostConnections};
-ghost use Rattle.clauses.specs.Clauses.{each};
-ghost use Rattle.places.specs.Places.{Tells, beyondOf, barsOf, pairOf, rowOf, placesOf, mostCodes, Sized};
-ghost use Rattle.places.specs.Table.{shut, due, tableGrid, manyClauses, Later, Earlier};
-
-// The most codes that w bits have, within the limits.
-const MOST_CODES: usize = 64;
+ghost use Rattle.clauses.specs.Clauses.{bitsFor};
+ghost use Rattle.places.specs.Places.{placeAt, placesOf, FoundAt, Sized};
+ghost use Rattle.places.specs.Table.{shut, due, tableGrid, forbiddenIn, tableRow, manyClauses};
+ghost use Rattle.places.specs.Rows.{Limited, Reach, Follows, LiesIn, NthIn};
+use channel::Code;
+use channel::MOST_CODES;
+use channel::MOST_CONNECTIONS;
+use occupancy::TABLE;
 
 // More clauses than there can be, as specs/Table.antt has it.
-const MANY: usize = channel::MOST_CONNECTIONS
-    * (MOST_CODES + channel::MOST_TRACKS + channel::MOST_CONNECTIONS * channel::MOST_TRACKS);
+const MANY: usize = (MOST_CONNECTIONS + 2) * (MOST_CONNECTIONS * MOST_CODES);
 
 // A clause's place: a connection, counted from 0, and the code that it forbids; two connections and the code; or how far behind the last one a number lies.
 pub enum Place {
-    One(usize, channel::Code),
-    Two(usize, usize, channel::Code),
+    One(usize, Code),
+    Two(usize, usize, Code),
     Past(usize),
 }
 
 // How many bits a code has, and how many codes there are.
 pub struct Size {
     pub w: u8,
-    pub top: usize,
+    pub top: u8,
+}
+
+// Stage 0 is group 1, stage 1 group 2, and stage h + 2 has connection h + 1 in group 3, with each connection i + 1 behind it.
+pub struct Row {
+    pub stage: usize,
+    pub i: usize,
+}
+
+// Where a number lies: behind so many places of a row. At the end of the walk: by how many it lies behind the last place.
+pub struct Spot {
+    pub row: Row,
+    pub rest: usize,
 }
 
 // w and 2^w for t tracks: doubled from one bit on until t codes have room.
@@ -35,8 +47,8 @@ pub fn size_of(t: u8) -> Size
     ensures { λ r. ⌜ Sized t (r .w) (r .top) ⌝ }
 {
     let mut w: u8 = 1;
-    let mut top: usize = 2;
-    while top < t as usize {
+    let mut top: u8 = 2;
+    while top < t {
         w += 1;
         top *= 2;
     }
@@ -44,185 +56,164 @@ pub fn size_of(t: u8) -> Size
 }
 
 // Whether the code c is barred for connection i + 1.
-pub fn is_shut(runs: &[u8; occupancy::TABLE], i: usize, c: u8) -> bool
-    requires { ⌜ i < mostConnections ⌝ }
-    requires { ⌜ c < mostTracks ⌝ }
-    ensures { λ r. ⌜ r ≡ shut (now (runs .entry)) i c ⌝ }
+fn is_shut(runs: &[u8; TABLE], i: usize, c: Code) -> bool
+    requires { ⌜ (i < mostConnections) × (c .0 < mostTracks) ⌝ }
+    ensures { λ r. ⌜ r ≡ shut (now (runs .entry)) i (c .0) ⌝ }
 {
-    let at = 2 * (i * channel::MOST_TRACKS + c as usize);
-    runs[at + 1] < runs[at]
-}
-
-// The barred tracks of connection i + 1.
-fn in_bars(runs: &[u8; occupancy::TABLE], t: u8, i: usize, n: usize) -> Place
-    requires { ⌜ i < mostConnections ⌝ }
-    requires { ⌜ t ≤ mostTracks ⌝ }
-    ensures { λ r. ⌜ Tells (barsOf (shut (now (runs .entry))) t i) n r ⌝ }
-{
-    let mut k = n;
-    let mut c: u8 = 0;
-    while c < t {
-        if is_shut(runs, i, c) {
-            if k == 0 {
-                return Place::One(i, channel::Code(c));
-            }
-            k -= 1;
-        }
-        c += 1;
-    }
-    Place::Past(k)
-}
-
-// Group 2: the barred tracks of each connection.
-fn group2(runs: &[u8; occupancy::TABLE], t: u8, m: usize, n: usize) -> Place
-    requires { ⌜ m ≤ mostConnections ⌝ }
-    requires { ⌜ t ≤ mostTracks ⌝ }
-    ensures { λ r. ⌜ Tells (each m (barsOf (shut (now (runs .entry))) t)) n r ⌝ }
-{
-    let mut k = n;
-    let mut i = 0;
-    while i < m {
-        let p = in_bars(runs, t, i, k);
-        let Place::Past(rest) = p else {
-            return p;
-        };
-        k = rest;
-        i += 1;
-    }
-    Place::Past(k)
-}
-
-// The later of two first segments; the earlier of two last ones.
-fn later(a: u8, b: u8) -> u8
-    ensures { λ r. ⌜ Later a b r ⌝ }
-{
-    if a < b { b } else { a }
-}
-
-fn earlier(a: u8, b: u8) -> u8
-    ensures { λ r. ⌜ Earlier a b r ⌝ }
-{
-    if b < a { b } else { a }
+    occupancy::last_in(runs, i, c) < occupancy::first_in(runs, i, c)
 }
 
 // Whether a clause is due for connections h + 1 and i + 1 on the track with the code c: both runs are there, and they have a segment in common.
-pub fn is_due(runs: &[u8; occupancy::TABLE], h: usize, i: usize, c: u8) -> bool
-    requires { ⌜ h < i ⌝ }
-    requires { ⌜ i < mostConnections ⌝ }
-    requires { ⌜ c < mostTracks ⌝ }
-    ensures { λ r. ⌜ r ≡ due (now (runs .entry)) h i c ⌝ }
+fn is_due(runs: &[u8; TABLE], h: usize, i: usize, c: Code) -> bool
+    requires { ⌜ (h < mostConnections) × (i < mostConnections) × (c .0 < mostTracks) ⌝ }
+    ensures { λ r. ⌜ r ≡ due (now (runs .entry)) h i (c .0) ⌝ }
 {
-    let a = 2 * (h * channel::MOST_TRACKS + c as usize);
-    let b = 2 * (i * channel::MOST_TRACKS + c as usize);
-    later(runs[a], runs[b]) <= earlier(runs[a + 1], runs[b + 1])
+    let a = occupancy::first_in(runs, h, c);
+    let e = occupancy::last_in(runs, h, c);
+    let b = occupancy::first_in(runs, i, c);
+    let d = occupancy::last_in(runs, i, c);
+    (h < i) & (((a <= d) & (b <= e)) & (!(e < a) & !(d < b)))
 }
 
-// The tracks on which connections h + 1 and i + 1 have a clause.
-fn in_pair(runs: &[u8; occupancy::TABLE], t: u8, h: usize, i: usize, n: usize) -> Place
-    requires { ⌜ h < i ⌝ }
-    requires { ⌜ i < mostConnections ⌝ }
+// Whether a row has a clause for the code c.
+pub fn is_forbidden(runs: &[u8; TABLE], t: u8, row: Row, c: Code) -> bool
+    requires { ⌜ Limited t row ⌝ }
+    ensures { λ r. ⌜ r ≡ forbiddenIn (now (runs .entry)) t row (c .0) ⌝ }
+{
+    if row.stage == 0 {
+        return t <= c.0;
+    }
+    if t <= c.0 {
+        return false;
+    }
+    if row.stage == 1 {
+        return is_shut(runs, row.i, c);
+    }
+    is_due(runs, row.stage - 2, row.i, c)
+}
+
+// Where the codes of a row below n end: no row but those of stage 0 has a code from t on.
+fn reach(t: u8, row: Row, n: u8) -> u8
+    ensures { λ r. ⌜ Reach t row n r ⌝ }
+{
+    if row.stage == 0 {
+        return n;
+    }
+    if n < t {
+        return n;
+    }
+    t
+}
+
+// How many places of a row have a code below n. The loop has no way out but its end, so that several codes can be tested at once.
+pub fn count_to(runs: &[u8; TABLE], t: u8, row: Row, n: u8) -> usize
+    requires { ⌜ Limited t row ⌝ }
+    ensures { λ r. ⌜ (r ≡ length (tableRow (now (runs .entry)) t row n)) × (r ≤ n) ⌝ }
+{
+    let end = reach(t, row, n);
+    let mut k: u8 = 0;
+    let mut c: u8 = 0;
+    while c < end {
+        if is_forbidden(runs, t, row, Code(c)) {
+            k += 1;
+        }
+        c += 1;
+    }
+    k as usize
+}
+
+// The row behind a row: the next connection's, or the first of the next stage; behind the last row of all, the end of the walk.
+pub fn next_row(row: Row, m: usize) -> Row
+    requires { ⌜ (m ≤ mostConnections) × (row .stage < m + 2) × (row .i < m) ⌝ }
+    ensures { λ r. ⌜ Follows m row r ⌝ }
+{
+    if row.i + 1 < m {
+        return Row {
+            stage: row.stage,
+            i: row.i + 1,
+        };
+    }
+    if m < row.stage {
+        return Row {
+            stage: row.stage,
+            i: m,
+        };
+    }
+    Row {
+        stage: row.stage + 1,
+        i: 0,
+    }
+}
+
+// The row in which the place with the number n lies, from 0, with what is left of n there.
+pub fn seek(runs: &[u8; TABLE], t: u8, m: usize, n: usize) -> Spot
     requires { ⌜ t ≤ mostTracks ⌝ }
-    ensures { λ r. ⌜ Tells (pairOf (due (now (runs .entry))) t h i) n r ⌝ }
+    requires { ⌜ m ≤ mostConnections ⌝ }
+    ensures { λ r. ⌜ LiesIn (tableGrid (now (runs .entry)) t m) n r ⌝ }
+{
+    let size = size_of(t);
+    let mut row = Row { stage: 0, i: 0 };
+    let mut rest = n;
+    while row.i < m {
+        let here = count_to(runs, t, row, size.top);
+        if rest < here {
+            return Spot { row, rest };
+        }
+        rest -= here;
+        row = next_row(row, m);
+    }
+    Spot { row, rest }
+}
+
+// The code of a row's place n, from 0.
+pub fn code_in(runs: &[u8; TABLE], t: u8, row: Row, n: usize) -> Code
+    requires { ⌜ Limited t row ⌝ }
+    requires { ⌜ n < length (tableRow (now runs) t row (2 ^ bitsFor t)) ⌝ }
+    ensures { λ r. ⌜ NthIn (now (runs .entry)) t row n (r .0) ⌝ }
 {
     let mut k = n;
     let mut c: u8 = 0;
-    while c < t {
-        if is_due(runs, h, i, c) {
+    loop {
+        if is_forbidden(runs, t, row, Code(c)) {
             if k == 0 {
-                return Place::Two(h, i, channel::Code(c));
+                return Code(c);
             }
             k -= 1;
         }
         c += 1;
     }
-    Place::Past(k)
 }
 
-// Connection h + 1 with each one behind it.
-fn in_row(runs: &[u8; occupancy::TABLE], t: u8, m: usize, h: usize, n: usize) -> Place
-    requires { ⌜ h < m ⌝ }
-    requires { ⌜ m ≤ mostConnections ⌝ }
-    requires { ⌜ t ≤ mostTracks ⌝ }
-    ensures { λ r. ⌜ Tells (rowOf (due (now (runs .entry))) t m h) n r ⌝ }
+// The place of a code in a row.
+pub fn place_at(row: Row, c: Code) -> Place
+    ensures { λ r. ⌜ r ≡ placeAt (row .stage) (row .i) (c .0) ⌝ }
 {
-    let mut k = n;
-    let mut i = h + 1;
-    while i < m {
-        let p = in_pair(runs, t, h, i, k);
-        let Place::Past(rest) = p else {
-            return p;
-        };
-        k = rest;
-        i += 1;
+    if row.stage < 2 {
+        return Place::One(row.i, c);
     }
-    Place::Past(k)
-}
-
-// Group 3: each connection with each one behind it.
-fn group3(runs: &[u8; occupancy::TABLE], t: u8, m: usize, n: usize) -> Place
-    requires { ⌜ m ≤ mostConnections ⌝ }
-    requires { ⌜ t ≤ mostTracks ⌝ }
-    ensures { λ r. ⌜ Tells (each m (rowOf (due (now (runs .entry))) t m)) n r ⌝ }
-{
-    let mut k = n;
-    let mut h = 0;
-    while h < m {
-        let p = in_row(runs, t, m, h, k);
-        let Place::Past(rest) = p else {
-            return p;
-        };
-        k = rest;
-        h += 1;
-    }
-    Place::Past(k)
-}
-
-// Group 1: the codes from t to top − 1, for each connection.
-fn group1(t: u8, top: usize, m: usize, n: usize) -> Place
-    requires { ⌜ t ≤ top ⌝ }
-    requires { ⌜ top ≤ mostCodes ⌝ }
-    ensures { λ r. ⌜ Tells (each m (beyondOf t (top - t))) n r ⌝ }
-{
-    let more = top - t as usize;
-    let mut k = n;
-    let mut i = 0;
-    while i < m {
-        if k < more {
-            return Place::One(i, channel::Code((t as usize + k) as u8));
-        }
-        k -= more;
-        i += 1;
-    }
-    Place::Past(k)
+    Place::Two(row.stage - 2, row.i, c)
 }
 
 // The place of the clause with the number n, from 0, or by how many n lies behind the last.
-pub fn find(runs: &[u8; occupancy::TABLE], t: u8, m: usize, n: usize) -> Place
+pub fn find(runs: &[u8; TABLE], t: u8, m: usize, n: usize) -> Place
     requires { ⌜ t ≤ mostTracks ⌝ }
     requires { ⌜ m ≤ mostConnections ⌝ }
-    ensures { λ r. ⌜ Tells (placesOf (tableGrid (now (runs .entry)) t m)) n r ⌝ }
+    ensures { λ r. ⌜ FoundAt (placesOf (tableGrid (now (runs .entry)) t m)) n r ⌝ }
 {
-    let s = size_of(t);
-    let p = group1(t, s.top, m, n);
-    let Place::Past(k) = p else {
-        return p;
-    };
-    let q = group2(runs, t, m, k);
-    let Place::Past(rest) = q else {
-        return q;
-    };
-    group3(runs, t, m, rest)
+    let spot = seek(runs, t, m, n);
+    let row = spot.row;
+    if m <= row.i {
+        return Place::Past(spot.rest);
+    }
+    place_at(row, code_in(runs, t, row, spot.rest))
 }
 
 // The number of clauses: a number behind the last tells it.
-pub fn count(runs: &[u8; occupancy::TABLE], t: u8, m: usize) -> usize
+pub fn count(runs: &[u8; TABLE], t: u8, m: usize) -> usize
     requires { ⌜ t ≤ mostTracks ⌝ }
     requires { ⌜ m ≤ mostConnections ⌝ }
     ensures { λ r. ⌜ (r ≡ length (placesOf (tableGrid (now (runs .entry)) t m))) × (r ≤ manyClauses) ⌝ }
 {
-    let p = find(runs, t, m, MANY);
-    let Place::Past(k) = p else {
-        return 0;
-    };
-    MANY - k
+    let spot = seek(runs, t, m, MANY);
+    MANY - spot.rest
 }

@@ -4,7 +4,7 @@
 ghost use mathlib.Core.Path.{_≡_};
 ghost use Prim.Native.Nat.{_≤_};
 ghost use lib.ListN.{drop};
-ghost use Rattle.dimacs.specs.Clause.{mostVariables};
+ghost use Rattle.channel.specs.Limits.{mostVariables};
 ghost use Rattle.scan.specs.Marks.{Done};
 
 // The lent text, and the place reached in it.
@@ -29,13 +29,6 @@ pub fn new<'a>(text: &'a [u8]) -> Reader<'a>
     ensures { λ r. ⌜ (r .text ≡ text .entry) × (r .at ≡ 0) ⌝ }
 {
     Reader { text, at: 0 }
-}
-
-// At another place of the same text.
-pub fn moved<'a>(r: Reader<'a>, at: usize) -> Reader<'a>
-    ensures { λ q. ⌜ (q .text ≡ r .entry .text) × (q .at ≡ at) ⌝ }
-{
-    Reader { text: r.text, at }
 }
 
 // The reply from the place reached on.

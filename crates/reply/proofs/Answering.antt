@@ -4,13 +4,12 @@ use mathlib.Core.Bool.{Bool, true, false, cond}
 use mathlib.Core.List.{List, _++_}
 use Prim.Native.Nat.{ℕ, _+_, _*_, _≤_, _<_}
 use native.Mathlib.Omega.{arith}
-use native.Mathlib.Nat.{mul-le-mul}
 use lib.Dec.{eqb}
 use lib.ListN.{getD, drop}
-use Rattle.channel.specs.Limits.{mostConnections}
 use Rattle.channel.specs.Channel.{Job, M}
-use Rattle.dimacs.specs.Clause.{Literal, Clause, mostVariables, firstFalse}
-use Rattle.dimacs.specs.Model.{variables, place7, holds, replyOf, checked}
+use Rattle.dimacs.specs.Clause.{Literal, Clause}
+use Rattle.dimacs.specs.Decision.{firstFalse, place7, replyOf, checked}
+use Rattle.dimacs.specs.Model.{variables, holds}
 use Rattle.dimacs.specs.Model.{Refused as RefusedBy}
 use Rattle.dimacs.proofs.Meaning.{checked-8, checked-none}
 use Rattle.dimacs.proofs.Values.{firstFalse-agree}
@@ -22,16 +21,12 @@ use Rattle.scan.specs.Marks.{Done}
 use Rattle.scan.proofs.Answers.{reads-refused, reads-claimed, reads-unknown, reads-wrong, reads-missing, reads-model, ModelMarks}
 use Rattle.jobfile.specs.Rows.{jobOf}
 use Rattle.jobfile.proofs.Exact.{job-numbers}
-use Rattle.places.specs.Places.{mostBits, Sized}
-use Rattle.model.specs.Codes.{plain}
+use Rattle.places.specs.Places.{Sized}
+use Rattle.model.specs.Codes.{setIn}
 use Rattle.reply.specs.declared.Answer.{Answer}
 use Rattle.reply.specs.declared.Answer.the-variants as variant
 use Rattle.reply.specs.Steps.{Call, Weighs, Answered}
 use Rattle.reply.proofs.Spelling.{labels-same}
-
--- V within its limit
-pub variables-few : (m w : ℕ) → m ≤ mostConnections → w ≤ mostBits → m * w ≤ mostVariables
-variables-few m w a b = let z = mul-le-mul {n₁ = m} {m₁ = w} {n₂ = mostConnections} {m₂ = mostBits} a b in omega arith
 
 -- the mark of a variable tells its value
 value-is : (b : Bool) (k : ℕ) → k ≡ cond b 1 2 → eqb k 1 ≡ b
@@ -76,15 +71,15 @@ module _ (f text l : List ℕ) (t m lent w v top : ℕ) (call : Call f t m lent)
         abbrev xs : List Literal
         xs = found .0
 
-        agree : (u : ℕ) → 1 ≤ u → u ≤ variableCount j → plain seen u ≡ holds xs u
+        agree : (u : ℕ) → 1 ≤ u → u ≤ variableCount j → setIn seen u ≡ holds xs u
         agree u p q = value-is (holds xs u) (getD seen u 0) (found .3 .mark u p (let c = count in omega arith))
 
-        first : firstFalse (plain seen) 1 cs ≡ firstFalse (holds xs) 1 cs
-        first = firstFalse-agree (variableCount j) (plain seen) (holds xs) agree 1 cs (job-within j)
+        first : firstFalse (setIn seen) 1 cs ≡ firstFalse (holds xs) 1 cs
+        first = firstFalse-agree (variableCount j) (setIn seen) (holds xs) agree 1 cs (job-within j)
 
-        pub answered-weighed : (r : Answer) (l′ : List ℕ) → Weighs j (plain seen) l r l′ → Answered j text l r l′
+        pub answered-weighed : (r : Answer) (l′ : List ℕ) → Weighs j (setIn seen) l r l′ → Answered j text l r l′
         answered-weighed variant.Accepted l′ (a, b) =
-            (xs, at ∙ found .2 ∙ checked-none v cs xs (found .1) (sym first ∙ a), b ∙ ap (λ y. y ++ drop (M j) l) (labels-same j (plain seen) (holds xs) agree))
+            (xs, at ∙ found .2 ∙ checked-none v cs xs (found .1) (sym first ∙ a), b ∙ ap (λ y. y ++ drop (M j) l) (labels-same j (setIn seen) (holds xs) agree))
         answered-weighed variant.Claimed l′ b = absurd b
         answered-weighed variant.Unknown l′ b = absurd b
         answered-weighed (variant.Refused num place) l′ (a, b, c, w′) =

@@ -10,8 +10,9 @@ use Rattle.channel.specs.Channel.{Job, M}
 use Rattle.channel.specs.Routing.{Routing}
 use Rattle.dimacs.specs.Clause.{Literal, Clause, valueIn}
 use Rattle.dimacs.specs.Reply.{unsatisfiable, unknown}
-use Rattle.dimacs.specs.Model.{holds, Reply, Refused, Accepted, Claimed, Unknown, replyOf}
+use Rattle.dimacs.specs.Model.{holds, Reply, Refused, Accepted, Claimed, Unknown}
 use Rattle.dimacs.specs.Refusals.{Says, replyRows, Means, is-refused, is-accepted, is-claimed, is-unknown}
+use Rattle.dimacs.specs.Decision.{replyOf}
 use Rattle.dimacs.proofs.Meaning.{reply-means}
 use Rattle.dimacs.proofs.Decided.{means-is, accepted-model}
 use Rattle.clauses.specs.Clauses.{clauses, variableCount, spelled}

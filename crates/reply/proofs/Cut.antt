@@ -13,7 +13,8 @@ use Rattle.refusals.proofs.Laws.{printed-order}
 use Rattle.channel.specs.Channel.{Job, M}
 use Rattle.dimacs.specs.Clause.{Clause}
 use Rattle.dimacs.specs.Reply.{Ended}
-use Rattle.dimacs.specs.Model.{Reply, Refused, Accepted, Claimed, Unknown, replyOf}
+use Rattle.dimacs.specs.Model.{Reply, Refused, Accepted, Claimed, Unknown}
+use Rattle.dimacs.specs.Decision.{replyOf}
 use Rattle.dimacs.proofs.Replies.{RefusedBy6, cut-any, line-reply, empty-reply}
 use Rattle.clauses.specs.Clauses.{clauses, variableCount}
 use Rattle.jobfile.specs.Rows.{fileRows, mOf, jobOf}

@@ -6,15 +6,18 @@ use mathlib.Core.Logic.{_⊎_, _↔_, inl, inr, ⊎-elim}
 use Prim.Native.Nat.{ℕ, _≤_}
 use native.Mathlib.Omega.{arith}
 use lib.ListN.{length, drop}
+use Rattle.facts.proofs.Bools.{never}
 use Rattle.refusals.specs.Table.{FirstBroken, Refuses, Passes}
 use Rattle.refusals.proofs.Laws.{passes-or, passes-row, decided-one}
 use Rattle.channel.specs.Channel.{Job, M}
 use Rattle.channel.specs.Routing.{Routing}
 use Rattle.dimacs.specs.Clause.{Literal, Clause, valueIn}
 use Rattle.dimacs.specs.Reply.{Status, satisfiable, unsatisfiable, unknown, statuses, literals}
-use Rattle.dimacs.specs.Model.{holds, Reply, Refused, Accepted, Claimed, Unknown, replyOf}
-use Rattle.dimacs.specs.Refusals.{linesIn, WellFormed, Keeps, Says, Gives, replyRows, Means, is-claimed, is-unknown}
-use Rattle.dimacs.proofs.Decided.{gives-one, means-is, accepted-model, model-accepted}
+use Rattle.dimacs.specs.Model.{holds, Reply, Refused, Accepted, Claimed, Unknown}
+use Rattle.dimacs.specs.Refusals.{linesIn, WellFormed, Keeps, Says, GivesModel, replyRows, Means, is-claimed, is-unknown}
+use Rattle.dimacs.specs.Decision.{replyOf}
+use Rattle.dimacs.proofs.Meaning.{gives-one}
+use Rattle.dimacs.proofs.Decided.{means-is, accepted-model, model-accepted}
 use Rattle.clauses.specs.Clauses.{clauses, variableCount, spelled}
 use Rattle.jobfile.specs.Rows.{fileRows, mOf, jobOf}
 use Rattle.jobfile.specs.Reads.{FileOf}
@@ -96,7 +99,7 @@ module _ (f t l : List ℕ) where
   says-passes : (s : Status) (n : ℕ) (cs : List Clause) → Says t (s ∷ []) [] → ((s ≡ unsatisfiable) ⊎ (s ≡ unknown)) → (s ≡ satisfiable → ⊥) → Passes (replyRows n cs t)
   says-passes s n cs g k no-model = passes-or (passes-row 6 pass6) (passes-or (passes-row 7 (λ p h. other (h .0) (h .1))) (passes-row 8 (λ p h. other (h .0) (h .1))))
     where
-      other : (xs : List Literal) → Gives t xs → ⊥
+      other : (xs : List Literal) → GivesModel t xs → ⊥
       other xs h = no-model (let e : s ∷ [] ≡ satisfiable ∷ [] = sym (g .status-lines) ∙ h .status-lines in cc)
 
       keeps : Keeps (s ∷ []) []
@@ -123,13 +126,13 @@ module _ (f t l : List ℕ) where
   pub claimed-exactly : (r : Answer) (l′ : List ℕ) → Replies f t l r l′ → (r ≡ variant.Claimed) ↔ ((j : Job) × FileOf f j × (M j ≤ length l) × Says t (unsatisfiable ∷ []) [])
   claimed-exactly r l′ g = (
     (λ e. let h = subst (λ x. Replies f t l x l′) e g in (h .1 .0 .0, h .1 .0 .1, room-of (h .0) (h .1 .0 .0) (h .1 .0 .1), h .1 .1)),
-    answered-so unsatisfiable (inl refl) (λ e. let z : _≡_ {A = ℕ} 0 1 = cc in absurd (omega arith)) Claimed (λ n cs. is-claimed) r l′ g,
+    answered-so unsatisfiable (inl refl) (λ e. never cc) Claimed (λ n cs. is-claimed) r l′ g,
   )
 
   pub unknown-exactly : (r : Answer) (l′ : List ℕ) → Replies f t l r l′ → (r ≡ variant.Unknown) ↔ ((j : Job) × FileOf f j × (M j ≤ length l) × Says t (unknown ∷ []) [])
   unknown-exactly r l′ g = (
     (λ e. let h = subst (λ x. Replies f t l x l′) e g in (h .1 .0 .0, h .1 .0 .1, room-of (h .0) (h .1 .0 .0) (h .1 .0 .1), h .1 .1)),
-    answered-so unknown (inr refl) (λ e. let z : _≡_ {A = ℕ} 0 1 = cc in absurd (omega arith)) Unknown (λ n cs. is-unknown) r l′ g,
+    answered-so unknown (inr refl) (λ e. never cc) Unknown (λ n cs. is-unknown) r l′ g,
   )
 
 -- the routing is the only one whose codes the reply's model spells

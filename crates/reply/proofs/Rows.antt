@@ -5,6 +5,7 @@ use mathlib.Core.Logic.{inl, inr}
 use Prim.Native.Nat.{ℕ, _≤_, _<_}
 use native.Mathlib.Omega.{arith}
 use native.Mathlib.Decide.{decLe}
+use Rattle.facts.proofs.Bools.{sure}
 use Rattle.refusals.specs.Table.{line, Rows, _or_, roomRow, Refuses, Passes, Sound}
 use Rattle.refusals.proofs.Laws.{Behind, behind-row, behind-or, refuses-left, refuses-right, refuses-row, passes-or, passes-row, sound-or, sound-front, nowhere-one, printed-order}
 use Rattle.dimacs.specs.Clause.{Clause}
@@ -58,8 +59,4 @@ module _ (f : List ℕ) (lent : ℕ) (t : List ℕ) where
 
   -- no row of a call that passes
   pub call-room : Passes (replyCall f lent t) → mOf f ≤ lent
-  call-room g = go (decLe (mOf f) lent)
-    where
-      go : Dec (mOf f ≤ lent) → mOf f ≤ lent
-      go (yes l) = l
-      go (no l) = absurd (g 9 0 (inr (inl (refl, (omega arith, refl)))))
+  call-room g = sure (decLe _ _) (λ l. g 9 0 (inr (inl (refl, (omega arith, refl)))))

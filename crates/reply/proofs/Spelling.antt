@@ -8,18 +8,21 @@ use native.Mathlib.Omega.{arith}
 use native.Mathlib.Nat.{suc-mul, mul-le-mul, le-refl}
 use lib.ListN.{length, getD, take, drop, length-map, take-append-drop}
 use lib.Seq.{ext-getD, getD-take, length-take-le}
+use Rattle.channel.specs.declared.Code.{Code}
 use Rattle.channel.specs.Channel.{Job, M}
 use Rattle.channel.specs.Routing.{Routing}
-use Rattle.dimacs.specs.Clause.{valueIn, assigned, makesAll}
+use Rattle.dimacs.specs.Clause.{valueIn, makesAll}
+use Rattle.dimacs.specs.Decision.{assigned}
 use Rattle.dimacs.proofs.Values.{assigned-length, assigned-value, makesAll-agree}
-use Rattle.clauses.specs.Clauses.{clauses, variableCount, width, codes, labels, labelWith, codeWith, codesIn, spelled, labelsIn, Model}
+use Rattle.clauses.specs.Clauses.{clauses, variableCount, width, codes, labelWith, codeWith, spelled, Model}
+use Rattle.clauses.specs.Reading.{labels, codesIn, labelsIn}
 use Rattle.clauses.proofs.Bits.{codeAt}
 use Rattle.clauses.proofs.Spelling.{codes-length, codes-at, codeAt-number, spell-length}
-use Rattle.clauses.proofs.Models.{model-routing, model-spells, labels-of-spelled}
+use Rattle.clauses.proofs.Models.{label-at, model-routing, model-spells, labels-of-spelled}
 use Rattle.clauses.proofs.Order.{job-within}
-use Rattle.model.specs.Codes.{plain, codeFrom, Codes}
+use Rattle.model.specs.Codes.{setIn, codeFrom, codeFor, Codes}
 use Rattle.model.proofs.Coding.{code-agrees}
-use Rattle.reply.specs.Steps.{Labelled, labelsBy}
+use Rattle.reply.specs.Steps.{LabelsPut, labelsBy}
 
 module _ (j : Job) (σ : ℕ → Bool) where
   abbrev a : List Bool
@@ -67,40 +70,35 @@ assigned-same (suc n) σ τ h =
 pub labels-same : (j : Job) (σ τ : ℕ → Bool) → ((v : ℕ) → 1 ≤ v → v ≤ variableCount j → σ v ≡ τ v) → labelsBy j σ ≡ labelsBy j τ
 labels-same j σ τ h = ap (labelsIn j) (assigned-same (variableCount j) σ τ h)
 
-label-at : (p : List ℕ) (i : ℕ) → i < length p → getD (labels p) i 0 ≡ labelWith (getD p i 0)
-label-at [] i l = absurd (omega arith)
-label-at (c ∷ p) zero l = refl
-label-at (c ∷ p) (suc i) l = label-at p i (omega arith)
-
 -- the codes of marks, and their labels as written
-module _ (j : Job) (marks codes′ : List ℕ) (w m : ℕ) (w-is : w ≡ width j) (m-is : m ≡ M j) (g : Codes marks w m codes′) where
+module _ (j : Job) (marks : List ℕ) (codes′ : List Code) (w m : ℕ) (w-is : w ≡ width j) (m-is : m ≡ M j) (g : Codes marks w m codes′) where
   abbrev b : List Bool
-  b = assigned (variableCount j) (plain marks)
+  b = assigned (variableCount j) (setIn marks)
 
   reach : (i : ℕ) → i < M j → i * width j + width j ≤ variableCount j
   reach i l = let s = suc-mul i (width j) in let k = mul-le-mul {n₁ = suc i} {m₁ = width j} {n₂ = M j} {m₂ = width j} l (le-refl (width j)) in omega arith
 
-  pub code-is : (σ : ℕ → Bool) → ((v : ℕ) → 1 ≤ v → v ≤ variableCount j → σ v ≡ plain marks v) → (i : ℕ) → i < M j → getD codes′ i 0 ≡ codeAt σ (i * width j + 1) (width j)
+  pub code-is : (σ : ℕ → Bool) → ((v : ℕ) → 1 ≤ v → v ≤ variableCount j → σ v ≡ setIn marks v) → (i : ℕ) → i < M j → codeFor codes′ i ≡ codeAt σ (i * width j + 1) (width j)
   code-is σ h i l =
       let r = reach i l in
       g .at i (omega arith) ∙ ap (λ k. codeFrom marks (i * k + 1) k) w-is ∙ code-agrees marks (i * width j + 1) σ (width j) (λ u x y. h u (omega arith) (omega arith))
 
-  code-read : (i : ℕ) → i < M j → getD codes′ i 0 ≡ getD (codesIn (width j) (M j) b) i 0
-  code-read i l = code-is (valueIn b) (λ v p q. assigned-value (variableCount j) (plain marks) v p q) i l ∙ codeAt-number b (i * width j) (width j) ∙ sym (codes-at (width j) (M j) i b l)
+  code-read : (i : ℕ) → i < M j → codeFor codes′ i ≡ getD (codesIn (width j) (M j) b) i 0
+  code-read i l = code-is (valueIn b) (λ v p q. assigned-value (variableCount j) (setIn marks) v p q) i l ∙ codeAt-number b (i * width j) (width j) ∙ sym (codes-at (width j) (M j) i b l)
 
-  pub labels-written : (old new : List ℕ) → m ≤ length old → Labelled m codes′ old new → new ≡ labelsBy j (plain marks) ++ drop (M j) old
+  pub labels-written : (old new : List ℕ) → m ≤ length old → LabelsPut m codes′ old new → new ≡ labelsBy j (setIn marks) ++ drop (M j) old
   labels-written old new r h =
       sym (take-append-drop m new)
       ∙ (λ z. front z ++ (h .rest ∙ ap (λ k. drop k old) m-is) z)
     where
-      many : length (labelsBy j (plain marks)) ≡ M j
+      many : length (labelsBy j (setIn marks)) ≡ M j
       many = length-map (codesIn (width j) (M j) b) labelWith ∙ codes-length (width j) (M j) b
 
       all : length (take m new) ≡ m
       all = length-take-le m new (let e = h .long in omega arith)
 
-      front : take m new ≡ labelsBy j (plain marks)
+      front : take m new ≡ labelsBy j (setIn marks)
       front =
-          ext-getD 0 (take m new) (labelsBy j (plain marks)) (all ∙ m-is ∙ sym many)
+          ext-getD 0 (take m new) (labelsBy j (setIn marks)) (all ∙ m-is ∙ sym many)
           (λ i l. let n = all in let c = codes-length (width j) (M j) b in
           getD-take m new i 0 (omega arith) ∙ h .labels i (omega arith) ∙ ap labelWith (code-read i (omega arith)) ∙ sym (label-at (codesIn (width j) (M j) b) i (omega arith)))

@@ -3,26 +3,27 @@ use mathlib.Core.Path.{_≡_, refl, sym, ap, subst, _∙_}
 use mathlib.Core.List.{List}
 use Prim.Native.Nat.{ℕ, _+_, _*_, _^_, _≤_, _<_}
 use native.Mathlib.Omega.{arith}
-use lib.ListN.{length, getD}
+use lib.ListN.{length}
+use Rattle.channel.specs.declared.Code.{Code}
+use Rattle.channel.specs.Limits.{mostCodes}
 use Rattle.channel.specs.Channel.{Job, T, M}
-use Rattle.dimacs.specs.Clause.{firstFalse}
+use Rattle.dimacs.specs.Decision.{firstFalse}
 use Rattle.clauses.specs.Clauses.{bitsFor, clausesOf, clauses}
 use Rattle.clauses.proofs.Bits.{codeAt}
 use Rattle.jobfile.specs.Rows.{jobOf}
 use Rattle.jobfile.proofs.Exact.{job-numbers}
 use Rattle.occupancy.specs.Runs.{Tabled}
-use Rattle.places.specs.Places.{placesOf, mostCodes, Sized}
+use Rattle.places.specs.Places.{placesOf, Sized}
 use Rattle.places.specs.Table.{tableGrid}
 use Rattle.places.proofs.Tabled.{tabled-clauses}
 use Rattle.model.specs.declared.Walk.{Walk}
 use Rattle.model.specs.declared.Walk.the-variants.{False, Passed}
-use Rattle.model.specs.Codes.{plain, codeFrom, Codes}
-use Rattle.model.specs.Walks.{falseAt, walk, Below}
+use Rattle.model.specs.Codes.{setIn, codeFrom, codeFor, Codes}
+use Rattle.model.specs.Walks.{Below, Brings}
 use Rattle.model.proofs.Coding.{code-below, code-agrees}
-use Rattle.model.proofs.Walking.{walk-found}
 use Rattle.model.proofs.Meaning.{placeOf, walk-finds}
 use Rattle.reply.specs.declared.Answer.the-variants as variant
-use Rattle.reply.specs.Steps.{Labelled, Call, Weighs}
+use Rattle.reply.specs.Steps.{LabelsPut, Call, Weighs}
 use Rattle.reply.proofs.Spelling.{labels-written}
 
 -- the width as the code has it
@@ -30,18 +31,18 @@ pub sized-as : (t w w′ top : ℕ) → w′ ≡ w → Sized t w top → Sized t
 sized-as t w w′ top e s = subst (λ k. Sized t k top) (sym e) s
 
 -- a code of w bits is below 2 ^ w
-pub codes-below : (marks codes : List ℕ) (t w top m : ℕ) → Sized t w top → Codes marks w m codes → Below top m codes
+pub codes-below : (marks : List ℕ) (codes : List Code) (t w top m : ℕ) → Sized t w top → Codes marks w m codes → Below top m codes
 codes-below marks codes t w top m s g i l =
     let b = code-below marks (i * w + 1) w in
     let e : 2 ^ w ≡ top = ap (λ k. 2 ^ k) (s .bits) ∙ sym (s .power) in
     let a = g .at i l in
     omega arith
 
-pub codes-few : (marks codes : List ℕ) (t w top m : ℕ) → Sized t w top → Codes marks w m codes → Below mostCodes m codes
+pub codes-few : (marks : List ℕ) (codes : List Code) (t w top m : ℕ) → Sized t w top → Codes marks w m codes → Below mostCodes m codes
 codes-few marks codes t w top m s g i l = let b = codes-below marks codes t w top m s g i l in let a = s .most in omega arith
 
-module _ (f marks codes runs : List ℕ) (t m lent w top : ℕ) (call : Call f t m lent) (s : Sized t w top) (g : Codes marks w m codes) (d : Tabled (jobOf f) runs)
-    (x : Walk) (e : x ≡ walk (falseAt codes) 0 (placesOf (tableGrid runs t m))) where
+module _ (f marks : List ℕ) (codes : List Code) (runs : List ℕ) (t m lent w top : ℕ) (call : Call f t m lent) (s : Sized t w top) (g : Codes marks w m codes) (d : Tabled (jobOf f) runs)
+    (x : Walk) (e : Brings codes (placesOf (tableGrid runs t m)) x) where
   abbrev j : Job
   j = jobOf f
 
@@ -51,19 +52,19 @@ module _ (f marks codes runs : List ℕ) (t m lent w top : ℕ) (call : Call f t
   pub connections : m ≡ M j
   connections = call .m-is ∙ job-numbers f .m-is
 
-  code : (i : ℕ) → i < m → getD codes i 0 ≡ codeAt (plain marks) (i * bitsFor t + 1) (bitsFor t)
-  code i l = g .at i l ∙ ap (λ k. codeFrom marks (i * k + 1) k) (s .bits) ∙ code-agrees marks (i * bitsFor t + 1) (plain marks) (bitsFor t) (λ u p q. refl)
+  code : (i : ℕ) → i < m → codeFor codes i ≡ codeAt (setIn marks) (i * bitsFor t + 1) (bitsFor t)
+  code i l = g .at i l ∙ ap (λ k. codeFrom marks (i * k + 1) k) (s .bits) ∙ code-agrees marks (i * bitsFor t + 1) (setIn marks) (bitsFor t) (λ u p q. refl)
 
   same : clausesOf (tableGrid runs t m) ≡ clauses j
   same = (λ z. clausesOf (tableGrid runs (tracks z) (connections z))) ∙ tabled-clauses j runs d
 
-  first-is : firstFalse (plain marks) 1 (clauses j) ≡ placeOf x
-  first-is = ap (firstFalse (plain marks) 1) (sym same) ∙ walk-finds (plain marks) (tableGrid runs t m) codes code ∙ ap placeOf (sym e)
+  first-is : firstFalse (setIn marks) 1 (clauses j) ≡ placeOf x
+  first-is = ap (firstFalse (setIn marks) 1) (sym same) ∙ walk-finds (setIn marks) (tableGrid runs t m) codes code x e
 
   -- a clause that is false
-  pub weighs-false : (p : ℕ) → x ≡ False p → (l : List ℕ) → Weighs j (plain marks) l (variant.Refused 8 p) l
-  weighs-false p q l = (refl, sym (first-is ∙ ap placeOf q), (λ z. let h = walk-found (falseAt codes) (placesOf (tableGrid runs t m)) 0 p (sym e ∙ q) in absurd (omega arith)), refl)
+  pub weighs-false : (p : ℕ) → x ≡ False p → (l : List ℕ) → Weighs j (setIn marks) l (variant.Refused 8 p) l
+  weighs-false p q l = (refl, sym (first-is ∙ ap placeOf q), (λ z. let h = subst (Brings codes (placesOf (tableGrid runs t m))) q e .number in absurd (omega arith)), refl)
 
   -- no clause is
-  pub weighs-true : (k : ℕ) → x ≡ Passed k → (l l′ : List ℕ) → m ≤ length l → Labelled m codes l l′ → Weighs j (plain marks) l variant.Accepted l′
+  pub weighs-true : (k : ℕ) → x ≡ Passed k → (l l′ : List ℕ) → m ≤ length l → LabelsPut m codes l l′ → Weighs j (setIn marks) l variant.Accepted l′
   weighs-true k q l l′ r h = (first-is ∙ ap placeOf q, labels-written j marks codes w m (s .bits ∙ ap bitsFor tracks) connections g l l′ r h)

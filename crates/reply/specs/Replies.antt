@@ -11,7 +11,7 @@ use Rattle.channel.specs.Routing.{Routing}
 use Rattle.dimacs.specs.Clause.{Literal, valueIn}
 use Rattle.dimacs.specs.Reply.{Status, unsatisfiable, unknown}
 use Rattle.dimacs.specs.Model.{holds}
-use Rattle.dimacs.specs.Refusals.{Says, Gives, IsModel, replyRows}
+use Rattle.dimacs.specs.Refusals.{Says, GivesModel, IsModel, replyRows}
 use Rattle.clauses.specs.Clauses.{clauses, variableCount, spelled}
 use Rattle.jobfile.specs.Rows.{fileRows, mOf, jobOf}
 use Rattle.jobfile.specs.Reads.{FileOf}
@@ -25,7 +25,7 @@ replyCall f lent t = fileRows f or roomRow (mOf f) lent or replyRows (variableCo
 -- the literals of the reply give each variable 1 to V the value that it has in the codes of the labels q
 pub record Spells (j : Job) (t q : List ℕ) : Type 0 where
   pub literals : List Literal
-  pub gives : Gives t literals
+  pub gives : GivesModel t literals
   pub values : (v : ℕ) → 1 ≤ v → v ≤ variableCount j → holds literals v ≡ valueIn (spelled j q) v
 
 -- the file is of a job, and the text is well-formed with this `s` line and no `v` line
@@ -44,7 +44,7 @@ Replies f t l (variant.Refused num place) l′ = Refuses (replyCall f (length l)
 -- the text is well-formed with `s SATISFIABLE`, and its literals are a model of the job's clauses
 pub record Modelled (j : Job) (t : List ℕ) : Type 0 where
   pub literals : List Literal
-  pub gives : Gives t literals
+  pub gives : GivesModel t literals
   pub model : IsModel (variableCount j) (clauses j) literals
 
 -- an answer s that leaves m, held against an answer r that leaves l′: s is a refusal by row 6 and the lent bytes l are as they were, or s is the same and

@@ -1,22 +1,27 @@
--- What the inner functions of the entry leave: labels written, row 8, and rows 6 to 8. Assumes nothing: these are definitions.
+-- Stepping stones: what the inner functions of the entry leave: labels written, row 8, and rows 6 to 8. `answered-replies` (proofs/Bridge.antt) carries it to
+-- the public statement. Assumes nothing: these are definitions.
 use mathlib.Core.Path.{_≡_}
 use mathlib.Core.Bool.{Bool}
 use mathlib.Core.List.{List, _++_}
 use Prim.Native.Nat.{ℕ, _≤_, _<_}
 use lib.ListN.{length, getD, drop}
+use Rattle.channel.specs.declared.Code.{Code}
 use Rattle.channel.specs.Channel.{Job, M}
-use Rattle.dimacs.specs.Clause.{Literal, assigned, firstFalse}
-use Rattle.dimacs.specs.Model.{holds, Refused, Accepted, Claimed, Unknown, replyOf}
-use Rattle.clauses.specs.Clauses.{clauses, variableCount, labelWith, labelsIn}
+use Rattle.channel.specs.Label.{code, labelOf}
+use Rattle.dimacs.specs.Clause.{Literal}
+use Rattle.dimacs.specs.Decision.{assigned, firstFalse, replyOf}
+use Rattle.dimacs.specs.Model.{holds, Refused, Accepted, Claimed, Unknown}
+use Rattle.clauses.specs.Clauses.{clauses, variableCount}
+use Rattle.clauses.specs.Reading.{labelsIn}
 use Rattle.jobfile.specs.Rows.{tOf, mOf}
-use Rattle.jobfile.specs.Reads.{Facts}
+use Rattle.jobfile.specs.Facts.{Facts}
 use Rattle.reply.specs.declared.Answer.{Answer}
 use Rattle.reply.specs.declared.Answer.the-variants as variant
 
 -- the labels of the first m codes, and the rest as it was
-pub record Labelled (m : ℕ) (codes old new : List ℕ) : Type 0 where
+pub record LabelsPut (m : ℕ) (codes : List Code) (old new : List ℕ) : Type 0 where
   pub long : length new ≡ length old
-  pub labels : (i : ℕ) → i < m → getD new i 0 ≡ labelWith (getD codes i 0)
+  pub labels : (i : ℕ) → i < m → getD new i 0 ≡ labelOf (getD codes i (code 0)) .0
   pub rest : drop m new ≡ drop m old
 
 -- a file that is read, its T and M, and room for M labels

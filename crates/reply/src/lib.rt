@@ -3,17 +3,17 @@
 ghost use mathlib.Core.Path.{_≡_};
 ghost use Prim.Native.Nat.{_+_, _*_, _≤_, _<_};
 ghost use lib.ListN.{length};
-ghost use Rattle.channel.specs.Limits.{mostConnections};
+ghost use Rattle.channel.specs.Limits.{mostConnections, mostCodes};
 ghost use Rattle.jobfile.specs.Rows.{jobOf};
-ghost use Rattle.places.specs.Places.{mostCodes};
-ghost use Rattle.model.specs.Codes.{plain};
+ghost use Rattle.model.specs.Codes.{setIn};
 ghost use Rattle.model.specs.Walks.{Below};
 ghost use Rattle.reply.specs.declared.Answer.the-variants as variant;
-ghost use Rattle.reply.specs.Steps.{Labelled, Call, Weighs, Answered};
+ghost use Rattle.reply.specs.Steps.{LabelsPut, Call, Weighs, Answered};
 ghost use Rattle.reply.specs.Replies.{Replies};
+use channel::Code;
 use channel::MOST_CONNECTIONS;
+use channel::MOST_VALUES;
 use jobfile::Read;
-use model::MARKS;
 use model::Walk;
 use text::wide;
 
@@ -33,32 +33,32 @@ fn refused(number: u8, place: usize) -> Answer
 }
 
 // The labels of m codes; behind them nothing changes.
-fn write_labels(codes: &[u8; MOST_CONNECTIONS], m: usize, labels: &mut [u8])
+fn write_labels(codes: [Code; MOST_CONNECTIONS], m: usize, labels: &mut [u8])
     requires { ⌜ m ≤ mostConnections ⌝ }
     requires { ⌜ m ≤ length (now labels) ⌝ }
-    requires { ⌜ Below mostCodes m (now codes) ⌝ }
-    ensures { λ r. ⌜ Labelled m (now (codes .entry)) (now (labels .entry)) (now (labels .exit)) ⌝ }
+    requires { ⌜ Below mostCodes m codes ⌝ }
+    ensures { λ r. ⌜ LabelsPut m codes (now (labels .entry)) (now (labels .exit)) ⌝ }
 {
     let mut i: usize = 0;
     while i < m {
-        let label = channel::label_of(channel::Code(codes[i]));
+        let label = channel::label_of(codes[i]);
         labels[i] = label.0;
         i += 1;
     }
 }
 
 // Row 8, by the marks of the model's variables; and the labels, if it does not hold.
-fn weigh(file: &[u8], marks: &[u8; MARKS], t: u8, m: usize, labels: &mut [u8]) -> Answer
+fn weigh(file: &[u8], marks: &[u8; MOST_VALUES], t: u8, m: usize, labels: &mut [u8]) -> Answer
     requires { ⌜ Call (now file) t m (length (now labels)) ⌝ }
-    ensures { λ r. ⌜ Weighs (jobOf (now (file .entry))) (plain (now (marks .entry))) (now (labels .entry)) r (now (labels .exit)) ⌝ }
+    ensures { λ r. ⌜ Weighs (jobOf (now (file .entry))) (setIn (now (marks .entry))) (now (labels .entry)) r (now (labels .exit)) ⌝ }
 {
     let size = places::size_of(t);
     let codes = model::codes_of(marks, wide(size.w), m);
     let runs = occupancy::table(file);
-    match model::first_false(&runs, &codes, t, size.top, m) {
+    match model::first_false(&runs, codes, t, size.top, m) {
         Walk::False(place) => refused(8, place),
         Walk::Passed(_) => {
-            write_labels(&codes, m, labels);
+            write_labels(codes, m, labels);
             Answer::Accepted
         }
     }

@@ -17,7 +17,8 @@ use Rattle.channel.specs.Channel.{Job, M}
 use Rattle.channel.specs.Verdict.{Decides}
 use Rattle.channel.proofs.Budget.{decides-one}
 use Rattle.jobfile.specs.Rows.{fileRows, mOf, jobOf}
-use Rattle.jobfile.specs.Reads.{FileOf, Facts}
+use Rattle.jobfile.specs.Reads.{FileOf}
+use Rattle.jobfile.specs.Facts.{Facts}
 use Rattle.jobfile.proofs.Exact.{job-is, facts-of, facts-pass, job-numbers, file-sound}
 use Rattle.rows.specs.Rows.{rowsText}
 use Rattle.route.specs.declared.Verdict.the-variants.{Routed, Unroutable, Undecided, Refused}

@@ -71,7 +71,3 @@ pub record Printed (f old new : List ℕ) (r s : ℕ) : Type 0 where
   pub prints : Prints f text s
   pub wrote : Wrote old 0 text new r
   pub fits : r ≤ length new
-
--- what is asked of the buffer for a first line
-abbrev pub firstRoom : ℕ
-firstRoom = 40

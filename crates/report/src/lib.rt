@@ -2,7 +2,6 @@
 // writes.
 // Document 01, "Numbers to hold against it": the program's lines. specs/Report.antt has them.
 use channel::MOST_CONNECTIONS;
-use jobfile::TRAILER;
 use route::Verdict;
 use rows::ROW;
 use rows::SMALL;
@@ -10,7 +9,8 @@ use text::wide;
 ghost use Prim.Native.Nat.{_+_, _≤_};
 ghost use lib.ListN.{length};
 ghost use Rattle.text.specs.Text.{Wrote};
-ghost use Rattle.report.specs.Report.{firstRoom, verdictText, refusedText, Printed};
+ghost use Rattle.report.specs.Report.{verdictText, refusedText, Printed};
+ghost use Rattle.report.specs.Room.{firstRoom};
 
 // The program's budget, and the longest input that it reads.
 pub const BUDGET: u32 = 1000000;
@@ -77,7 +77,7 @@ pub fn report(input: &[u8], text: &mut [u8; TEXT]) -> Said
     let mut labels = [0u8; MOST_CONNECTIONS];
     match route::route(input, BUDGET, &mut labels) {
         Verdict::Routed(n) => {
-            let m = wide(input[input.len() - TRAILER + 6]);
+            let m = wide(jobfile::trailer_of(input).connections);
             let at = put_verdict(text, b"routed ", n as usize);
             Said {
                 length: rows::put_rows(text, at, input, &labels[..m]),

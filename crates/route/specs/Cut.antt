@@ -1,5 +1,5 @@
--- What a budget makes of a search tree: the contracts of the two functions that search. A stepping stone: specs/Routes.antt has the public statement.
--- Assumes nothing: these are definitions.
+-- Stepping stones: what a budget makes of a search tree: the contracts of the two functions that search. specs/Routes.antt has the public statement, and
+-- `judge-found`, `judge-dead` and `judge-spent` (proofs/Verdicts.antt) lead there. Assumes nothing: these are definitions.
 use mathlib.Core.Path.{_≡_}
 use mathlib.Core.Bool.{cond}
 use mathlib.Core.List.{List, [], _∷_}
@@ -28,7 +28,7 @@ written b i (found q k) l = cond (leb k b) (over l i q) l
 written b i (dead k) l = l
 
 -- the answer r to the search tree o under the budget b from connection i + 1 on, and the labels l′ that it leaves of l
-pub record Answers (b i : ℕ) (o : Res) (l : List ℕ) (r : Step) (l′ : List ℕ) : Type 0 where
+pub record CutTo (b i : ℕ) (o : Res) (l : List ℕ) (r : Step) (l′ : List ℕ) : Type 0 where
   pub step : r ≡ stepOf b o
   pub labels : l′ ≡ written b i o l
 

@@ -11,8 +11,8 @@ ghost use lib.ListN.{length};
 ghost use Rattle.search.specs.Tree.{place, tries};
 ghost use Rattle.marks.specs.Marking.{marking};
 ghost use Rattle.jobfile.specs.Rows.{tOf, mOf, jobOf};
-ghost use Rattle.jobfile.specs.Reads.{Facts};
-ghost use Rattle.route.specs.Cut.{Answers, Laid};
+ghost use Rattle.jobfile.specs.Facts.{Facts};
+ghost use Rattle.route.specs.Cut.{CutTo, Laid};
 ghost use Rattle.route.specs.Routes.{Judged, Routes};
 
 // The answer to a file: a verdict with the reported trials, or the number and the place of a refusal.
@@ -41,7 +41,7 @@ fn place_connection(
     budget: u32,
 ) -> Step
     requires { ⌜ Laid (now runs) tracks m × (i ≤ m) × (m ≤ length (now labels)) ⌝ }
-    ensures { λ r. ⌜ Answers budget i (place (marking (now (runs .entry)) tracks) (m - i) (i, marks)) (now (labels .entry)) r (now (labels .exit)) ⌝ }
+    ensures { λ r. ⌜ CutTo budget i (place (marking (now (runs .entry)) tracks) (m - i) (i, marks)) (now (labels .entry)) r (now (labels .exit)) ⌝ }
 {
     if i == m {
         Step::Found(budget)
@@ -62,7 +62,7 @@ fn try_tracks_from(
     budget: u32,
 ) -> Step
     requires { ⌜ Laid (now runs) tracks m × (i < m) × (m ≤ length (now labels)) × (1 ≤ from .0) × (from .0 ≤ tracks + 1) ⌝ }
-    ensures { λ r. ⌜ Answers budget i (tries (marking (now (runs .entry)) tracks) (place (marking (now (runs .entry)) tracks) (m - (i + 1))) (tracks + 1 - from .0) (from .0) (i, marks)) (now (labels .entry)) r (now (labels .exit)) ⌝ }
+    ensures { λ r. ⌜ CutTo budget i (tries (marking (now (runs .entry)) tracks) (place (marking (now (runs .entry)) tracks) (m - (i + 1))) (tracks + 1 - from .0) (from .0) (i, marks)) (now (labels .entry)) r (now (labels .exit)) ⌝ }
 {
     let mut t = from.0;
     let mut left = budget;

@@ -1,7 +1,7 @@
 -- The lines of a routing, one more at a time: the cell that is read for a label, which is not barred, has the first and last occupied segment. Assumes nothing.
 use mathlib.Core.Path.{_≡_, refl, sym, ap, subst, _∙_}
 use mathlib.Core.List.{List}
-use Prim.Native.Nat.{ℕ, _+_, _-_, _*_, _≤_, _<_}
+use Prim.Native.Nat.{ℕ, _+_, _*_, _≤_, _<_}
 use native.Mathlib.Omega.{arith}
 use native.Mathlib.Numerals.{add-one}
 use borrow.Author.Tests.{ltb-false}
@@ -11,11 +11,10 @@ use Rattle.text.specs.Text.{Wrote}
 use Rattle.text.proofs.Writing.{then, wrote-none}
 use Rattle.channel.specs.Channel.{occupiedBy, trackAt, connectionAt}
 use Rattle.channel.specs.Routing.{Routing}
-use Rattle.jobfile.specs.Rows.{nOf, tOf, mOf, kOf, connectionsAt, trackRead, connectionRead, FineAt, jobOf}
-use Rattle.jobfile.specs.Reads.{Facts, Offsets}
+use Rattle.jobfile.specs.Rows.{tOf, mOf, kOf, jobOf}
+use Rattle.jobfile.specs.Facts.{Facts}
 use Rattle.jobfile.proofs.Exact.{job-numbers}
 use Rattle.occupancy.specs.Runs.{Run, Cell}
-use Rattle.occupancy.proofs.Reading.{fine-read, cell-read}
 use Rattle.rows.specs.Rows.{rowRoom, firstOf, lastOf, rowText, rowsText}
 use Rattle.rows.proofs.Runs.{run-first, run-last}
 
@@ -33,7 +32,7 @@ pub going-first : (f q old : List ℕ) (at : ℕ) → Facts f → Routing (jobOf
 unfolding rowsText
 going-first f q old at g r h = record { facts = g; routing = r; within = omega arith; long = refl; room = h; reached = omega arith; wrote = wrote-none old at }
 
-module _ (f q old : List ℕ) (at : ℕ) (new : List ℕ) (to i : ℕ) (g : Going f q old at new to i) where
+module _ {f q old : List ℕ} {at : ℕ} {new : List ℕ} {to i : ℕ} (g : Going f q old at new to i) where
   pub going-last : length q ≤ i → Wrote old at (rowsText (jobOf f) q (length q)) new to
   going-last h = let e : i ≡ length q = let w = g .within in omega arith in subst (λ (n : ℕ). Wrote old at (rowsText (jobOf f) q n) new to) e (g .wrote)
 
@@ -51,34 +50,26 @@ module _ (f q old : List ℕ) (at : ℕ) (new : List ℕ) (to i : ℕ) (g : Goin
     pub going-connection : i < mOf f
     going-connection = omega (arith, g .routing .whole, job-numbers f .m-is)
 
-    -- the table of starts has its track's record
-    module _ (heads : List ℕ) (o : Offsets f heads) where
-      pub going-fine : FineAt f (nOf f) (connectionsAt f) (getD heads (getD q i 0 - 1) 0)
-      going-fine = fine-read f heads (g .facts) o (getD q i 0) going-low going-high
+    -- the cell that was read for it, and what it tells
+    module _ {a e : ℕ} (cell : Cell (kOf f) (trackAt (jobOf f .tracks) (getD q i 0)) (connectionAt (jobOf f .connections) i) a e) where
+      order : a ≤ e
+      order = ltb-false _ _ (sym (cell .shut) ∙ g .routing .legal .allowed i h)
 
-      -- the cell that was read there, and what it tells
-      module _ (a e : ℕ) (c : Cell (kOf f) (trackRead f (getD heads (getD q i 0 - 1) 0)) (connectionRead f (connectionsAt f + 3 * i)) a e) where
-        cell : Cell (kOf f) (trackAt (jobOf f .tracks) (getD q i 0)) (connectionAt (jobOf f .connections) i) a e
-        cell = cell-read f heads (g .facts) o (getD q i 0) going-low going-high i going-connection a e c
+      run : Run (trackAt (jobOf f .tracks) (getD q i 0)) (connectionAt (jobOf f .connections) i) a e
+      run = cell .run (g .routing .legal .allowed i h)
 
-        order : a ≤ e
-        order = ltb-false _ _ (sym (cell .shut) ∙ g .routing .legal .allowed i h)
-
-        run : Run (trackAt (jobOf f .tracks) (getD q i 0)) (connectionAt (jobOf f .connections) i) a e
-        run = cell .run (g .routing .legal .allowed i h)
-
-        -- one line more
-        pub going-on : (new′ : List ℕ) (to′ : ℕ) → Wrote new to (rowText (i + 1) (getD q i 0) (a + 1) (e + 1)) new′ to′ → to′ ≤ to + rowRoom → Going f q old at new′ to′ (i + 1)
-        unfolding rowsText
-        going-on new′ to′ w b =
-            let ks : List ℕ = occupiedBy (trackAt (jobOf f .tracks) (getD q i 0)) (connectionAt (jobOf f .connections) i) in
-            let line : rowText (i + 1) (getD q i 0) (a + 1) (e + 1) ≡ rowText (i + 1) (getD q i 0) (firstOf ks) (lastOf ks) = (λ k. rowText (i + 1) (getD q i 0) (sym (run-first _ _ _ _ run order) k) (sym (run-last _ _ _ _ run order) k)) in
-            record {
-              facts = g .facts;
-              routing = g .routing;
-              within = omega arith;
-              long = ap length (w .is) ∙ length-sets new to (rowText (i + 1) (getD q i 0) (a + 1) (e + 1)) ∙ g .long;
-              room = g .room;
-              reached = omega (arith, g .reached);
-              wrote = rw add-one (then (g .wrote) (subst (λ (t : List ℕ). Wrote new to t new′ to′) line w));
-            }
+      -- one line more
+      pub going-on : (new′ : List ℕ) (to′ : ℕ) → Wrote new to (rowText (i + 1) (getD q i 0) (a + 1) (e + 1)) new′ to′ → to′ ≤ to + rowRoom → Going f q old at new′ to′ (i + 1)
+      unfolding rowsText
+      going-on new′ to′ w b =
+          let ks : List ℕ = occupiedBy (trackAt (jobOf f .tracks) (getD q i 0)) (connectionAt (jobOf f .connections) i) in
+          let line : rowText (i + 1) (getD q i 0) (a + 1) (e + 1) ≡ rowText (i + 1) (getD q i 0) (firstOf ks) (lastOf ks) = (λ k. rowText (i + 1) (getD q i 0) (sym (run-first _ _ _ _ run order) k) (sym (run-last _ _ _ _ run order) k)) in
+          record {
+            facts = g .facts;
+            routing = g .routing;
+            within = omega arith;
+            long = ap length (w .is) ∙ length-sets new to (rowText (i + 1) (getD q i 0) (a + 1) (e + 1)) ∙ g .long;
+            room = g .room;
+            reached = omega (arith, g .reached);
+            wrote = rw add-one (then (g .wrote) (subst (λ (t : List ℕ). Wrote new to t new′ to′) line w));
+          }

@@ -13,7 +13,8 @@ use Rattle.text.proofs.Writing.{digits-length, front}
 use Rattle.channel.specs.Channel.{Job, M, occupiedBy, trackAt, connectionAt}
 use Rattle.channel.specs.Routing.{Routing}
 use Rattle.jobfile.specs.Rows.{fileRows, mOf, jobOf}
-use Rattle.jobfile.specs.Reads.{FileOf, Facts}
+use Rattle.jobfile.specs.Reads.{FileOf}
+use Rattle.jobfile.specs.Facts.{Facts}
 use Rattle.jobfile.proofs.Exact.{job-numbers, facts-of, facts-pass, job-is, file-before}
 use Rattle.judge.specs.declared.Judgement.the-variants as judgement
 use Rattle.judge.specs.Judges.{judgeRows, Judges}

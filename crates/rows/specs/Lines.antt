@@ -19,7 +19,7 @@ abbrev pub linesRows : List ℕ → List ℕ → ℕ → Rows
 linesRows f q lent = judgeRows f q or roomRow (mOf f * rowRoom) lent
 
 -- the labels are a routing of the file's job, whose lines are written from the front, n bytes long, and the rest stays
-pub record Written (f q old new : List ℕ) (n : ℕ) : Type 0 where
+pub record WrittenRows (f q old new : List ℕ) (n : ℕ) : Type 0 where
   pub job : Job
   pub of-file : FileOf f job
   pub routing : Routing job q
@@ -28,5 +28,5 @@ pub record Written (f q old new : List ℕ) (n : ℕ) : Type 0 where
 
 -- document 01's number and values for each answer; a refusal changes no byte
 abbrev pub Lines : List ℕ → List ℕ → List ℕ → Answer → List ℕ → Type 0
-Lines f q old (Text n) new = Written f q old new n
+Lines f q old (Text n) new = WrittenRows f q old new n
 Lines f q old (Refused num place) new = Refuses (linesRows f q (length old)) num place × (new ≡ old)

@@ -9,7 +9,7 @@ ghost use lib.ListN.{length};
 ghost use Rattle.text.specs.Text.{Wrote};
 ghost use Rattle.channel.specs.Routing.{Routing};
 ghost use Rattle.jobfile.specs.Rows.{jobOf};
-ghost use Rattle.jobfile.specs.Reads.{Facts};
+ghost use Rattle.jobfile.specs.Facts.{Facts};
 ghost use Rattle.rows.specs.Rows.{rowRoom, rowText, rowsText};
 ghost use Rattle.rows.specs.Lines.{Lines};
 
@@ -52,8 +52,7 @@ pub fn put_rows(buf: &mut [u8], at: usize, file: &[u8], labels: &[u8]) -> usize
     let mut to = at;
     let mut i = 0;
     while i < labels.len() {
-        let code = channel::code_of(Label(labels[i]));
-        let run = occupancy::bounds_at(file, heads[wide(code.0)], i);
+        let run = occupancy::bounds_on(file, &heads, Label(labels[i]), i);
         let first = wide(run.first) + 1;
         let last = wide(run.last) + 1;
         to = put_row(buf, to, i + 1, wide(labels[i]), first, last);

@@ -1,6 +1,6 @@
 -- What a reading decides: the answer of `replyOf` by the answer of row 6, the first wrong position, the count of literals and the marks.
 -- Missing variables are a matter of counting (`reply-missing`). Assumes nothing.
-use mathlib.Core.Path.{_≡_, refl, sym, ap, _∙_}
+use mathlib.Core.Path.{_≡_, refl, sym, ap, subst, _∙_}
 use mathlib.Core.Bool.{Bool, true, false, cond, not, _||_, false≢true}
 use mathlib.Core.List.{List, [], _∷_}
 use Prim.Native.Nat.{ℕ, _+_, _≤_, _<_}
@@ -9,20 +9,19 @@ use lib.Dec.{eqb, leb}
 use lib.ListN.{length, getD, length-map}
 use borrow.Author.Tests.{le-leb, lt-leb}
 use Rattle.dimacs.specs.Clause.{Literal, Clause}
-use Rattle.dimacs.specs.Reply.{Word, Parsed, Refused6, Unsat, Unsure, answerOf}
-use Rattle.dimacs.specs.Reply.{Sat as SatAs}
-use Rattle.dimacs.specs.Model.{before, among, variables, firstWrong, allThere, place7, holds, checked, replied, replyOf}
+use Rattle.dimacs.specs.Reply.{Word}
+use Rattle.dimacs.specs.Model.{beforeNought, among, variables, holds}
 use Rattle.dimacs.specs.Model.{Refused as RefusedBy, Claimed as ClaimedAs, Unknown as UnknownAs}
+use Rattle.dimacs.specs.Decision.{Parsed, Refused6, Unsat, Unsure, answerOf, Sat as SatAs, firstWrong, allThere, place7, checked, replied, replyOf}
 use Rattle.dimacs.proofs.Meaning.{place7-wrong, place7-missing, place7-none, checked-7}
 use Rattle.dimacs.proofs.Positive.{reply-missing}
 use Rattle.dimacs.proofs.Searches.{all-there}
-use Rattle.scan.specs.Step.{brief}
-use Rattle.scan.specs.Marks.{markOf, Done}
 use Rattle.scan.specs.declared.Answer.{Answer}
 use Rattle.scan.specs.declared.Answer.the-variants.{Refused, Claimed, Unknown, Sat}
+use Rattle.scan.specs.Marks.{brief, markOf, Done}
 
 -- the mark of a variable that is among the literals: 1 where the model holds it, 2 where not
-pub mark-holds : (xs : List Literal) (v : ℕ) → among v (variables xs) ≡ true → markOf xs v ≡ cond (holds xs v) 1 2
+mark-holds : (xs : List Literal) (v : ℕ) → among v (variables xs) ≡ true → markOf xs v ≡ cond (holds xs v) 1 2
 unfolding markOf holds among
 mark-holds [] v h = absurd (false≢true h)
 mark-holds (x ∷ xs) v h = go (eqb v (x .variable)) (x .negated) (mark-holds xs v) h
@@ -38,63 +37,51 @@ pub record ModelMarks (top : ℕ) (seen : List ℕ) (xs : List Literal) : Type 0
   pub mark : (v : ℕ) → 1 ≤ v → v ≤ top → getD seen v 0 ≡ cond (holds xs v) 1 2
 
 -- the answer of row 6 tells what the text says
-brief-refused : (a : Parsed) (p : ℕ) → brief a ≡ Refused p → a ≡ Refused6 p
-unfolding brief
-brief-refused (Refused6 q) p h = ap Refused6 (let z : q ≡ p = cc in z)
-brief-refused (SatAs zs) p h = let z : _≡_ {A = ℕ} 0 1 = cc in absurd (omega arith)
-brief-refused Unsat p h = let z : _≡_ {A = ℕ} 0 1 = cc in absurd (omega arith)
-brief-refused Unsure p h = let z : _≡_ {A = ℕ} 0 1 = cc in absurd (omega arith)
+abbrev ParsedAs : Answer → Parsed → Type 0
+ParsedAs (Refused p) a = a ≡ Refused6 p
+ParsedAs Claimed a = a ≡ Unsat
+ParsedAs Unknown a = a ≡ Unsure
+ParsedAs (Sat k) a = (zs : List Word) × (a ≡ SatAs zs) × (k ≡ length (beforeNought zs))
 
-brief-claimed : (a : Parsed) → brief a ≡ Claimed → a ≡ Unsat
+brief-parsed : (a : Parsed) → ParsedAs (brief a) a
 unfolding brief
-brief-claimed (Refused6 q) h = let z : _≡_ {A = ℕ} 0 1 = cc in absurd (omega arith)
-brief-claimed (SatAs zs) h = let z : _≡_ {A = ℕ} 0 1 = cc in absurd (omega arith)
-brief-claimed Unsat h = refl
-brief-claimed Unsure h = let z : _≡_ {A = ℕ} 0 1 = cc in absurd (omega arith)
-
-brief-unknown : (a : Parsed) → brief a ≡ Unknown → a ≡ Unsure
-unfolding brief
-brief-unknown (Refused6 q) h = let z : _≡_ {A = ℕ} 0 1 = cc in absurd (omega arith)
-brief-unknown (SatAs zs) h = let z : _≡_ {A = ℕ} 0 1 = cc in absurd (omega arith)
-brief-unknown Unsat h = let z : _≡_ {A = ℕ} 0 1 = cc in absurd (omega arith)
-brief-unknown Unsure h = refl
-
-brief-sat : (a : Parsed) (k : ℕ) → brief a ≡ Sat k → (zs : List Word) × (a ≡ SatAs zs) × (k ≡ length (before zs))
-unfolding brief
-brief-sat (Refused6 q) k h = let z : _≡_ {A = ℕ} 0 1 = cc in absurd (omega arith)
-brief-sat (SatAs zs) k h = (zs, refl, let z : k ≡ length (before zs) = cc in z)
-brief-sat Unsat k h = let z : _≡_ {A = ℕ} 0 1 = cc in absurd (omega arith)
-brief-sat Unsure k h = let z : _≡_ {A = ℕ} 0 1 = cc in absurd (omega arith)
+brief-parsed (Refused6 p) = refl
+brief-parsed (SatAs zs) = (zs, refl, refl)
+brief-parsed Unsat = refl
+brief-parsed Unsure = refl
 
 module _ (text : List ℕ) (top : ℕ) (answer : Answer) (wrong : ℕ) (seen : List ℕ) (d : Done text top answer wrong seen) (cs : List Clause) where
+  parsed : {x : Answer} → answer ≡ x → ParsedAs x (answerOf text)
+  parsed e = subst (λ x. ParsedAs x (answerOf text)) (sym (d .says-answer) ∙ e) (brief-parsed (answerOf text))
+
   pub reads-refused : (p : ℕ) → answer ≡ Refused p → replyOf top cs text ≡ RefusedBy 6 p
   unfolding replyOf replied
-  reads-refused p e = ap (replied top cs) (brief-refused (answerOf text) p (sym (d .says-answer) ∙ e))
+  reads-refused p e = ap (replied top cs) (parsed e)
 
   pub reads-claimed : answer ≡ Claimed → replyOf top cs text ≡ ClaimedAs
   unfolding replyOf replied
-  reads-claimed e = ap (replied top cs) (brief-claimed (answerOf text) (sym (d .says-answer) ∙ e))
+  reads-claimed e = ap (replied top cs) (parsed e)
 
   pub reads-unknown : answer ≡ Unknown → replyOf top cs text ≡ UnknownAs
   unfolding replyOf replied
-  reads-unknown e = ap (replied top cs) (brief-unknown (answerOf text) (sym (d .says-answer) ∙ e))
+  reads-unknown e = ap (replied top cs) (parsed e)
 
   module _ (k : ℕ) (e : answer ≡ Sat k) where
     abbrev zs : List Word
-    zs = brief-sat (answerOf text) k (sym (d .says-answer) ∙ e) .0
+    zs = parsed e .0
 
     abbrev xs : List Literal
-    xs = before zs
+    xs = beforeNought zs
 
     says : answerOf text ≡ SatAs zs
-    says = brief-sat (answerOf text) k (sym (d .says-answer) ∙ e) .1
+    says = parsed e .1
 
     replied-is : replyOf top cs text ≡ checked top cs xs
     unfolding replyOf replied
     replied-is = ap (replied top cs) says
 
     count-is : length (variables xs) ≡ k
-    count-is = length-map xs (λ x. x .variable) ∙ sym (brief-sat (answerOf text) k (sym (d .says-answer) ∙ e) .2)
+    count-is = length-map xs (λ x. x .variable) ∙ sym (parsed e .2)
 
     -- a variable above V or seen before
     pub reads-wrong : (wrong ≡ 0 → ⊥) → replyOf top cs text ≡ RefusedBy 7 wrong
@@ -119,5 +106,5 @@ module _ (text : List ℕ) (top : ℕ) (answer : Answer) (wrong : ℕ) (seen : L
       pub reads-model : top ≤ k → (ys : List Literal) × (place7 top (variables ys) ≡ 0) × (replyOf top cs text ≡ checked top cs ys) × ModelMarks top seen ys
       reads-model h =
           let a = counts ∙ le-leb top k h in
-          let l = brief-sat (answerOf text) k (sym (d .says-answer) ∙ e) .2 in
+          let l = parsed e .2 in
           (xs, place7-none top (variables xs) none-wrong a, replied-is, record { many = omega arith; mark = λ v p q. d .marks zs says w v q ∙ mark-holds xs v (all-there top (variables xs) a v p q) })

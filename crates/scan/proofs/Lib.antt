@@ -1,6 +1,6 @@
-pub mod Automaton
 pub mod Codes
-pub mod Ends
+pub mod Outcome
+pub mod Automaton
 pub mod Counts
 pub mod Reader
 pub mod Agrees

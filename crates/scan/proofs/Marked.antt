@@ -7,80 +7,80 @@ use Prim.Native.Nat.{ℕ, _+_, _≤_, _<_}
 use native.Mathlib.Omega.{arith}
 use lib.Dec.{eqb}
 use lib.ListN.{length, getD, replicate, length-replicate, getD-replicate}
-use Rattle.dimacs.specs.Clause.{mostVariables}
-use Rattle.dimacs.specs.Reply.{Word, answerOf, Sat}
-use Rattle.dimacs.specs.Model.{before}
-use Rattle.scan.specs.Step.{litOf, eventOf, Tally, notedOf, countOf, shutOf, stepOf, endOf, saidOf, atEnd}
-use Rattle.scan.specs.Marks.{wrongLit, seenLit, markOf, Done}
-use Rattle.scan.specs.declared.Lit.{Lit}
+use Rattle.dimacs.specs.Reply.{Word}
+use Rattle.dimacs.specs.Model.{beforeNought}
+use Rattle.dimacs.specs.Decision.{answerOf, Sat}
+use Rattle.channel.specs.Limits.{mostVariables, mostValues}
+use Rattle.scan.specs.declared.line.Lit.{Lit}
 use Rattle.scan.specs.declared.Answer.{Answer}
-use Rattle.scan.specs.declared.Mode.{Mode}
-use Rattle.scan.specs.declared.Mode.the-variants.{Start, Bad}
+use Rattle.scan.specs.declared.line.Mode.{Mode}
+use Rattle.scan.specs.declared.line.Mode.the-variants.{Start, Bad}
+use Rattle.scan.specs.Line.{modeLiteral, endedLiteral, stepMode, modeCode}
+use Rattle.scan.specs.Tally.{Tally, tallyAfter, countAfter, shutAfter, saidAfter, toldAtEnd}
+use Rattle.scan.specs.Seen.{Seen, seenAs, markedLit}
+use Rattle.scan.specs.Marks.{markOf, Done}
 use Rattle.scan.proofs.Automaton.{listOf}
 use Rattle.scan.proofs.Counts.{tally}
 use Rattle.scan.proofs.Reader.{Right, start-right, bad-line-right, good-line-right, in-line-right, end-right, end-literals}
-use Rattle.scan.proofs.Agrees.{wrongAfter, seenAfter, agrees-none, first-wrong, marks-are}
-use Rattle.scan.proofs.Folds.{wrong-lit, seen-lit}
+use Rattle.scan.proofs.Agrees.{seenAfter, agrees-none, first-wrong, marks-are}
+use Rattle.scan.proofs.Folds.{seen-at, seen-lit}
 
 -- no variable was seen
-abbrev pub noMarks : List ℕ
-noMarks = replicate (mostVariables + 1) 0
+abbrev noneSeen : Seen
+noneSeen = seenAs (replicate mostValues 0) 0
 
-pub record Reached (t : List ℕ) (top : ℕ) (seen : List ℕ) (wrong : ℕ) (m : Mode) (line said : ℕ) (tl : Tally) (i : ℕ) : Type 0 where
+pub record Reached (t : List ℕ) (top : ℕ) (s : Seen) (m : Mode) (number said : ℕ) (tl : Tally) (i : ℕ) : Type 0 where
   pub xs : List Word
-  pub right : Right t xs m line said tl i
-  pub wrong-is : wrong ≡ wrongAfter top noMarks 0 0 (before xs)
-  pub seen-is : seen ≡ seenAfter top noMarks 0 0 (before xs)
+  pub right : Right t xs m number said tl i
+  pub seen-is : s ≡ seen-at top noneSeen xs
 
-pub reached-start : (t : List ℕ) (top : ℕ) → Reached t top noMarks 0 Start 1 0 (tally 0 0) 0
-unfolding wrongAfter seenAfter before
-reached-start t top = record { xs = []; right = start-right t; wrong-is = refl; seen-is = refl }
+pub reached-start : (t : List ℕ) (top : ℕ) → Reached t top noneSeen Start 1 0 (tally 0 0) 0
+unfolding seenAfter beforeNought
+reached-start t top = record { xs = []; right = start-right t; seen-is = refl }
 
-module _ (t : List ℕ) (top : ℕ) (seen : List ℕ) (wrong : ℕ) (m : Mode) (line said : ℕ) (tl : Tally) (i : ℕ) (r : Reached t top seen wrong m line said tl i) where
-  wrong-next : (l : Lit) → wrongLit seen wrong tl top l ≡ wrongAfter top noMarks 0 0 (before (r .xs ++ listOf l))
-  wrong-next l = (λ j. wrongLit (r .seen-is j) (r .wrong-is j) (r .right .notes j) top l) ∙ wrong-lit top noMarks (r .xs) l
+module _ {t : List ℕ} {top : ℕ} {s : Seen} {m : Mode} {number said : ℕ} {tl : Tally} {i : ℕ} (r : Reached t top s m number said tl i) where
+  seen-next : (l : Lit) → markedLit s tl top l ≡ seen-at top noneSeen (r .xs ++ listOf l)
+  seen-next l = (λ j. markedLit (r .seen-is j) (r .right .notes j) top l) ∙ seen-lit top noneSeen (r .xs) l
 
-  seen-next : (l : Lit) → seenLit seen wrong tl top l ≡ seenAfter top noMarks 0 0 (before (r .xs ++ listOf l))
-  seen-next l = (λ j. seenLit (r .seen-is j) (r .wrong-is j) (r .right .notes j) top l) ∙ seen-lit top noMarks (r .xs) l
+  -- one byte on, where the loop comes to a mode, a line's number and the `s` lines
+  abbrev here : Lit
+  here = endedLiteral m (getD t i 0)
 
-  -- one byte on, where the loop comes to a mode, a line and the `s` lines
   abbrev Onward : Mode → ℕ → ℕ → Type 0
-  Onward m′ line′ said′ = Reached t top (seenLit seen wrong tl top (eventOf m (getD t i 0))) (wrongLit seen wrong tl top (eventOf m (getD t i 0))) m′ line′ said′ (notedOf tl (eventOf m (getD t i 0))) (i + 1)
+  Onward m′ number′ said′ = Reached t top (markedLit s tl top here) m′ number′ said′ (tallyAfter tl here) (i + 1)
 
-  onward : (m′ : Mode) (line′ said′ : ℕ) → Right t (r .xs ++ listOf (eventOf m (getD t i 0))) m′ line′ said′ (notedOf tl (eventOf m (getD t i 0))) (i + 1) → Onward m′ line′ said′
-  onward m′ line′ said′ k = record { xs = r .xs ++ listOf (eventOf m (getD t i 0)); right = k; wrong-is = wrong-next (eventOf m (getD t i 0)); seen-is = seen-next (eventOf m (getD t i 0)) }
+  onward : {m′ : Mode} {number′ said′ : ℕ} → Right t (r .xs ++ listOf here) m′ number′ said′ (tallyAfter tl here) (i + 1) → Onward m′ number′ said′
+  onward k = record { xs = r .xs ++ listOf here; right = k; seen-is = seen-next here }
 
-  pub reached-bad : i < length t → getD t i 0 ≡ 10 → endOf t m i ≡ 0 → Onward Bad line said
-  reached-bad k e c = onward Bad line said (bad-line-right t (r .xs) m line said tl i (r .right) k e c)
+  pub reached-bad : i < length t → getD t i 0 ≡ 10 → modeCode t m i ≡ 0 → Onward Bad number said
+  reached-bad k e c = onward (bad-line-right (r .right) k e c)
 
-  pub reached-line : i < length t → getD t i 0 ≡ 10 → (endOf t m i ≡ 0 → ⊥) → Onward Start (line + 1) (saidOf said (endOf t m i))
-  reached-line k e c = onward Start (line + 1) (saidOf said (endOf t m i)) (good-line-right t (r .xs) m line said tl i (r .right) k e c)
+  pub reached-line : i < length t → getD t i 0 ≡ 10 → (modeCode t m i ≡ 0 → ⊥) → Onward Start (number + 1) (saidAfter said (modeCode t m i))
+  reached-line k e c = onward (good-line-right (r .right) k e c)
 
-  pub reached-byte : i < length t → (getD t i 0 ≡ 10 → ⊥) → Onward (stepOf m (getD t i 0) (i + 1)) line said
-  reached-byte k n = onward (stepOf m (getD t i 0) (i + 1)) line said (in-line-right t (r .xs) m line said tl i (r .right) k n)
+  pub reached-byte : i < length t → (getD t i 0 ≡ 10 → ⊥) → Onward (stepMode m (getD t i 0) (i + 1)) number said
+  reached-byte k n = onward (in-line-right (r .right) k n)
 
   -- what the calls of a turn of the loop gave
-  pub arrive : (m″ : Mode) (line″ said″ : ℕ) → Onward m″ line″ said″ → (l : Lit) → l ≡ eventOf m (getD t i 0) → {seen′ : List ℕ} {wrong′ count′ shut′ line′ said′ : ℕ} {m′ : Mode} → seen′ ≡ seenLit seen wrong tl top l → wrong′ ≡ wrongLit seen wrong tl top l → count′ ≡ countOf (tl .count) (tl .shut) l → shut′ ≡ shutOf (tl .shut) l → m′ ≡ m″ → line′ ≡ line″ → said′ ≡ said″ → Reached t top seen′ wrong′ m′ line′ said′ (tally count′ shut′) (i + 1)
-  arrive m″ line″ said″ o l e s w c h f g k = rw (s, w, c, h, f, g, k, e) o
+  pub arrive : {m″ : Mode} {number″ said″ : ℕ} → Onward m″ number″ said″ → {l : Lit} → l ≡ here → {s′ : Seen} {count′ shut′ number′ said′ : ℕ} {m′ : Mode} → s′ ≡ markedLit s tl top l → count′ ≡ countAfter (tl .count) (tl .shut) l → shut′ ≡ shutAfter (tl .shut) l → m′ ≡ m″ → number′ ≡ number″ → said′ ≡ said″ → Reached t top s′ m′ number′ said′ (tally count′ shut′) (i + 1)
+  arrive o e w c h f g k = rw (w, c, h, f, g, k, e) o
 
-  reached-end : i ≡ length t → top ≤ mostVariables → Done t top (atEnd t m i line said tl) (wrongLit seen wrong tl top (litOf m)) (seenLit seen wrong tl top (litOf m))
+  -- what is seen at the end, if the answer is SATISFIABLE
+  seen-all : i ≡ length t → (zs : List Word) → answerOf t ≡ Sat zs → markedLit s tl top (modeLiteral m) ≡ seen-at top noneSeen zs
+  seen-all e zs a = seen-next (modeLiteral m) ∙ ap (seen-at top noneSeen) (end-literals (r .right) e zs a)
+
+  reached-end : i ≡ length t → top ≤ mostVariables → Done t top (toldAtEnd t m i number said tl) (markedLit s tl top (modeLiteral m) .wrong) (markedLit s tl top (modeLiteral m) .marks)
   reached-end e h =
       record {
-        says-answer = end-right t (r .xs) m line said tl i (r .right) e;
-        first = λ zs a. wrong-at zs a ∙ first-wrong top 0 noMarks [] (before zs) (agrees-none top (mostVariables + 1) (omega arith));
+        says-answer = end-right (r .right) e;
+        first = λ zs a. ap (λ z. z .wrong) (seen-all e zs a) ∙ first-wrong top 0 _ [] (beforeNought zs) (agrees-none top mostValues (omega arith));
         marks =
             λ zs a w v k.
-            ap (λ z. getD z v 0) (seen-next (litOf m) ∙ ap (λ z. seenAfter top noMarks 0 0 (before z)) (all zs a))
-            ∙ marks-are top 0 noMarks (before zs) (subst (λ n. top < n) (sym (length-replicate {A = ℕ} (mostVariables + 1) 0)) (omega arith)) (sym (wrong-at zs a) ∙ w) v k
-            ∙ ap (λ z. cond (eqb z 0) (markOf (before zs) v) z) (getD-replicate {A = ℕ} (mostVariables + 1) v 0 0 (omega arith));
+            ap (λ z. getD (z .marks) v 0) (seen-all e zs a)
+            ∙ marks-are top 0 (noneSeen .marks) (beforeNought zs) (subst (λ n. top < n) (sym (length-replicate {A = ℕ} mostValues 0)) (omega arith)) (ap (λ z. z .wrong) (sym (seen-all e zs a)) ∙ w) v k
+            ∙ ap (λ z. cond (eqb z 0) (markOf (beforeNought zs) v) z) (getD-replicate {A = ℕ} mostValues v 0 0 (omega arith));
       }
-    where
-      all : (zs : List Word) → answerOf t ≡ Sat zs → r .xs ++ listOf (litOf m) ≡ zs
-      all zs a = end-literals t (r .xs) m line said tl i (r .right) e zs a
-
-      wrong-at : (zs : List Word) → answerOf t ≡ Sat zs → wrongLit seen wrong tl top (litOf m) ≡ wrongAfter top noMarks 0 0 (before zs)
-      wrong-at zs a = wrong-next (litOf m) ∙ ap (λ z. wrongAfter top noMarks 0 0 (before z)) (all zs a)
 
   -- and those after the loop
-  pub finish : i ≡ length t → top ≤ mostVariables → (l : Lit) → l ≡ litOf m → {seen′ : List ℕ} {wrong′ : ℕ} {answer : Answer} → seen′ ≡ seenLit seen wrong tl top l → wrong′ ≡ wrongLit seen wrong tl top l → answer ≡ atEnd t m i line said tl → Done t top answer wrong′ seen′
-  finish k h l e s w a = rw (a, s, w, e) (reached-end k h)
+  pub finish : i ≡ length t → top ≤ mostVariables → {l : Lit} → l ≡ modeLiteral m → {s′ : Seen} {answer : Answer} → s′ ≡ markedLit s tl top l → answer ≡ toldAtEnd t m i number said tl → Done t top answer (s′ .wrong) (s′ .marks)
+  finish k h e w a = rw (a, w, e) (reached-end k h)

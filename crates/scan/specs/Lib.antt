@@ -1,2 +1,4 @@
-pub mod Step
+pub mod Line
+pub mod Tally
+pub mod Seen
 pub mod Marks

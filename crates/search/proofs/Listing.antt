@@ -9,8 +9,9 @@ use native.Mathlib.Nat.{eq-or-lt-of-le}
 use native.Mathlib.Omega.{arith}
 use lib.Dec.{ltb, eqb}
 use borrow.Author.Tests.{ltb-true, ltb-false, eq-eqb, ne-eqb}
+use Rattle.facts.specs.Same.{same}
 use Rattle.search.specs.Sequences.{Labelled}
-use Rattle.search.specs.Need.{fan, seqs, count, same, occurs, ListsEach}
+use Rattle.search.specs.Need.{fan, seqs, count, occurs, ListsEach}
 use Rattle.search.proofs.Counting.{across, across-ext, count-fan, count-none}
 
 -- a sum in which the label u alone counts: it is not among the labels, or it is

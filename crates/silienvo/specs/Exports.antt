@@ -1,11 +1,12 @@
 -- The numbers of the exports: document 01's number and values for each answer, as C reads them. Assumes nothing: these are definitions.
 use mathlib.Core.Path.{_≡_}
 use mathlib.Core.List.{List}
-use Prim.Native.Nat.{ℕ, _+_, _*_, _-_, _≤_}
+use Prim.Native.Nat.{ℕ, _*_, _-_}
 use lib.ListN.{length}
 use Rattle.jobfile.specs.declared.Read.{Read}
 use Rattle.jobfile.specs.declared.Read.the-variants as read
-use Rattle.jobfile.specs.Reads.{Reads}
+use Rattle.jobfile.specs.Rows.{trailerSize, connectionSize}
+use Rattle.jobfile.specs.Reads.{Reads, Stand}
 use Rattle.route.specs.declared.Verdict.{Verdict}
 use Rattle.route.specs.declared.Verdict.the-variants as verdict
 use Rattle.route.specs.Routes.{Routes}
@@ -17,7 +18,7 @@ use Rattle.rows.specs.declared.Answer.the-variants as rows
 use Rattle.rows.specs.Lines.{Lines}
 use Rattle.lines.specs.declared.Answer.{Answer as LineAnswer}
 use Rattle.lines.specs.declared.Answer.the-variants as line
-use Rattle.lines.specs.Writes.{Writes as WritesLine}
+use Rattle.lines.specs.Writes.{WritesLine}
 use Rattle.reply.specs.declared.Answer.{Answer as ReplyAnswer}
 use Rattle.reply.specs.declared.Answer.the-variants as reply
 use Rattle.reply.specs.Replies.{Replies}
@@ -39,13 +40,8 @@ given kind value = record { kind = kind; number = 0; value = value }
 
 -- the reader's answers, for a file of n bytes: the connections are the 3 × M bytes before the trailer
 abbrev pub jobGiven : ℕ → Read → SilienvoJob
-jobGiven n (read.Job c t m k) = record { kind = 1; number = 0; place = 0; columns = c; tracks = t; connections = m; limit = k; start = n - 8 - 3 * m; length = 3 * m }
+jobGiven n (read.Job c t m k) = record { kind = 1; number = 0; place = 0; columns = c; tracks = t; connections = m; limit = k; start = n - trailerSize - connectionSize * m; length = connectionSize * m }
 jobGiven n (read.Refused num place) = record { kind = 0; number = num; place = place; columns = 0; tracks = 0; connections = 0; limit = 0; start = 0; length = 0 }
-
--- a job's connections stand before the trailer
-abbrev pub ReadFits : ℕ → Read → Type 0
-ReadFits n (read.Job c t m k) = 3 * m + 8 ≤ n
-ReadFits n (read.Refused num place) = Unit
 
 -- the router's: 1 Routed, 2 Unroutable, 3 Undecided, with the reported trials
 abbrev pub verdictGiven : Verdict → SilienvoAnswer
@@ -81,11 +77,12 @@ abbrev pub writtenGiven : Written → SilienvoAnswer
 writtenGiven (written.File n) = given 1 n
 writtenGiven (written.Refused num place) = refusal num place
 
--- each export says what the function that it wraps says
+-- each export says what the function that it wraps says; and of a job its start and length tell where its connections stand
 pub record ReadSays (f : List ℕ) (r : SilienvoJob) : Type 0 where
   pub answer : Read
   pub says : Reads f answer
   pub is : r ≡ jobGiven (length f) answer
+  pub stand : r .kind ≡ 1 → Stand f (r .start) (r .length)
 
 pub record RouteSays (f : List ℕ) (b : ℕ) (l : List ℕ) (r : SilienvoAnswer) (l′ : List ℕ) : Type 0 where
   pub answer : Verdict

@@ -1,7 +1,8 @@
 // The exports for C: each public entry on numbers and slices, with an answer of plain numbers. include/silienvo.h says the same in plain words.
 // A slice passes as a pointer and a length. No function has a precondition.
 ghost use mathlib.Core.Path.{_≡_};
-ghost use Rattle.silienvo.specs.Exports.{ReadFits, jobGiven, verdictGiven, judgementGiven, rowsGiven, lineGiven, replyGiven, writtenGiven, ReadSays, RouteSays, JudgeSays, RowsSays, LineSays, ReplySays, PartSays, EditSays};
+ghost use Rattle.silienvo.specs.Exports.{jobGiven, verdictGiven, judgementGiven, rowsGiven, lineGiven, replyGiven, writtenGiven, ReadSays, RouteSays, JudgeSays, RowsSays, LineSays, ReplySays, PartSays, EditSays};
+ghost use Rattle.silienvo.specs.Fits.{ReadFits};
 use jobfile::Read;
 use judge::Judgement;
 use part::Written;

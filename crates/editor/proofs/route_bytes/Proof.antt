@@ -5,7 +5,7 @@ use native.Mathlib.Omega.{arith}
 use denote.Ref.{now}
 use lib.ListN.{length-replicate}
 use lib.Seq.{length-take-le}
-use Rattle.editor.specs.Edits.{mostBytes}
+use Rattle.editor.specs.Gathering.{mostBytes}
 use Rattle.editor.proofs.Core.{size-within, core-routes, core-refuses}
 use borrow.Author.Needs.{needs}
 use Rattle.editor.proofs.route_bytes.Statement.{statement}
@@ -14,23 +14,11 @@ use Rattle.editor.proofs.route_bytes.Tie as tie
 returns : tie.Need-returns
 returns c = record { many = λ h. (refl, refl); few = λ h. absurd (omega arith) }
 
-mul-end : tie.Need-mul-end
-mul-end c = search needs
-
 array-share-prefix-bytes : tie.Need-array-share-prefix-bytes
 array-share-prefix-bytes c = search needs
 
 slice-aggregate-write-p1 : tie.Need-slice-aggregate-write-p1
 slice-aggregate-write-p1 c = sym (length-take-le _ _ (array-share-prefix-bytes (c .before)))
-
-slice-aggregate-write-p1-2 : tie.Need-slice-aggregate-write-p1-2
-slice-aggregate-write-p1-2 c = search needs
-
-write-p1-requires : tie.Need-write-p1-requires
-write-p1-requires c κs = search needs
-
-enum-known-size : tie.Need-enum-known-size
-enum-known-size c = search needs
 
 array-share-prefix-file : tie.Need-array-share-prefix-file
 array-share-prefix-file c =
@@ -40,15 +28,6 @@ array-share-prefix-file c =
 
 slice-aggregate-route : tie.Need-slice-aggregate-route
 slice-aggregate-route c = sym (length-take-le _ _ (array-share-prefix-file (c .before)))
-
-route-requires : tie.Need-route-requires
-route-requires c κs = search needs
-
-enum-known-number : tie.Need-enum-known-number
-enum-known-number c = search needs
-
-same-length : tie.Need-same-length
-same-length c = search needs
 
 returns-2 : tie.Need-returns-2
 returns-2 c =
@@ -64,19 +43,6 @@ returns-3 c =
 
 pub route-bytes-spec : {M : Type 1} → statement M
 route-bytes-spec =
-    tie.close
-    (tie.spec
-    returns
-    mul-end
-    array-share-prefix-bytes
-    slice-aggregate-write-p1
-    slice-aggregate-write-p1-2
-    write-p1-requires
-    enum-known-size
-    array-share-prefix-file
-    slice-aggregate-route
-    route-requires
-    enum-known-number
-    same-length
-    returns-2
-    returns-3)
+    tie.close (tie.spec returns (search needs) array-share-prefix-bytes slice-aggregate-write-p1
+    (search needs) (search needs) (search needs) array-share-prefix-file slice-aggregate-route
+    (search needs) (search needs) (search needs) returns-2 returns-3)

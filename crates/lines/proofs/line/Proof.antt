@@ -9,15 +9,6 @@ use borrow.Author.Needs.{needs}
 use Rattle.lines.proofs.line.Statement.{statement}
 use Rattle.lines.proofs.line.Tie as tie
 
-read-job-requires : tie.Need-read-job-requires
-read-job-requires c κs = search needs
-
-enum-known-row : tie.Need-enum-known-row
-enum-known-row c = search needs
-
-enum-known-t : tie.Need-enum-known-t
-enum-known-t c = search needs
-
 returns : tie.Need-returns
 returns c =
     let e = c .before .before in
@@ -37,9 +28,6 @@ table-requires c κs =
     let f = now (s .args .file) in
     let g = subst (Reads f) (v .1) (r .read-job .ensures) in
     told f (v .0 .0) (v .0 .1 .0) (v .0 .1 .1 .0) (v .0 .1 .1 .1 .0) g .facts
-
-wide-requires : tie.Need-wide-requires
-wide-requires c κs = search needs
 
 line-of-requires : tie.Need-line-of-requires
 line-of-requires c κs =
@@ -61,9 +49,6 @@ returns-2 c =
     let f = now (s .args .file) in
     (refused-file f (now (s .args .buffer)) (s .args .number) (v .0 .0) (v .0 .1 .0) (subst (Reads f) (v .1) (r .read-job .ensures)), refl)
 
-same-length : tie.Need-same-length
-same-length c = search needs
-
 returns-3 : tie.Need-returns-3
 returns-3 c =
     let x = c .before .before in
@@ -79,15 +64,5 @@ returns-3 c =
 
 pub line-spec : {M : Type 1} → statement M
 line-spec =
-    tie.close
-    (tie.spec
-    read-job-requires
-    enum-known-row
-    enum-known-t
-    returns
-    table-requires
-    wide-requires
-    line-of-requires
-    returns-2
-    same-length
-    returns-3)
+    tie.close (tie.spec (λ c κs. search needs) (λ c. search needs) (λ c. search needs) returns
+    table-requires (λ c κs. search needs) line-of-requires returns-2 (λ c. search needs) returns-3)

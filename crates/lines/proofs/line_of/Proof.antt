@@ -2,20 +2,11 @@
 use mathlib.Core.Path.{refl}
 use native.Mathlib.Omega.{arith}
 use denote.Ref.{now}
-use Rattle.lines.proofs.Words.{variables-few}
+use Rattle.clauses.proofs.Width.{variables-few}
 use Rattle.lines.proofs.Lines.{zeroth, found-within, found, above}
 use borrow.Author.Needs.{needs}
 use Rattle.lines.proofs.line_of.Statement.{statement}
 use Rattle.lines.proofs.line_of.Tie as tie
-
-size-of-requires : tie.Need-size-of-requires
-size-of-requires c κs = search needs
-
-count-requires : tie.Need-count-requires
-count-requires c κs = search needs
-
-cast-put-header : tie.Need-cast-put-header
-cast-put-header c = search needs
 
 mul-put-header : tie.Need-mul-put-header
 mul-put-header c =
@@ -31,9 +22,6 @@ put-header-requires c κs =
     let q = variables-few (s .args .m) (z .size-of .result .w) (s .pre .1 .0) (z .size-of .ensures .few) in
     omega arith
 
-same-length : tie.Need-same-length
-same-length c = search needs
-
 returns : tie.Need-returns
 returns c =
     let h = c .before .before in
@@ -41,15 +29,6 @@ returns c =
     let z = k .before .before in
     let s = z .before .before in
     zeroth (s .args .runs .now) (s .args .t) (s .args .m) (s .args .n) (z .size-of .result .w) (z .size-of .result .top) (z .size-of .ensures) (now (s .args .buf)) (h .put-header .last .0) (k .count .result) (h .put-header .result) (k .before .if1 .taken) (k .count .ensures .0) (h .put-header .ensures)
-
-sub-find : tie.Need-sub-find
-sub-find c = search needs
-
-find-requires : tie.Need-find-requires
-find-requires c κs = search needs
-
-enum-told : tie.Need-enum-told
-enum-told c = search needs
 
 returns-2 : tie.Need-returns-2
 returns-2 c =
@@ -65,9 +44,6 @@ put-clause-requires c κs =
     let s = z .before .before in
     (omega arith, (z .size-of .ensures .few, found-within (s .args .runs .now) (s .args .t) (s .args .m) (s .args .n) (z .size-of .result .w) (z .size-of .result .top) (z .size-of .ensures) (f .find .result) (f .before .if1 .left) (f .find .ensures) (s .pre .0) (s .pre .1 .0) (c .before .match .keys2)))
 
-same-length-2 : tie.Need-same-length-2
-same-length-2 c = search needs
-
 returns-3 : tie.Need-returns-3
 returns-3 c =
     let p = c .before .before in
@@ -79,19 +55,7 @@ returns-3 c =
 
 pub line-of-spec : {M : Type 1} → statement M
 line-of-spec =
-    tie.close
-    (tie.spec
-    size-of-requires
-    count-requires
-    cast-put-header
-    mul-put-header
-    put-header-requires
-    same-length
-    returns
-    sub-find
-    find-requires
-    enum-told
-    returns-2
-    put-clause-requires
-    same-length-2
+    tie.close (tie.spec (λ c κs. search needs) (λ c κs. search needs) (λ c. search needs)
+    mul-put-header put-header-requires (λ c. search needs) returns (λ c. search needs)
+    (λ c κs. search needs) (λ c. search needs) returns-2 put-clause-requires (λ c. search needs)
     returns-3)

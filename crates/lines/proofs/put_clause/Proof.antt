@@ -3,7 +3,6 @@ use mathlib.Core.Path.{subst}
 use native.Mathlib.Omega.{arith}
 use denote.Ref.{now}
 use Rattle.text.proofs.Writing.{then}
-use Rattle.channel.specs.Limits.{mostConnections}
 use Rattle.places.specs.Places.{Within}
 use Rattle.lines.proofs.Words.{wrote-one, wrote-two}
 use Rattle.lines.proofs.Lines.{past-within}
@@ -11,44 +10,26 @@ use borrow.Author.Needs.{needs}
 use Rattle.lines.proofs.put_clause.Statement.{statement}
 use Rattle.lines.proofs.put_clause.Tie as tie
 
-enum-known-p : tie.Need-enum-known-p
-enum-known-p c = search needs
-
 put-bar-requires : tie.Need-put-bar-requires
 put-bar-requires c κs =
     let s = c .before .before .before .before .before in
     let g = c .before .before .p .given in
-    let m = subst (Within mostConnections) (g .1) (s .pre .1 .1) in
+    let m = subst Within (g .1) (s .pre .1 .1) in
     (omega arith, (omega arith, m .0))
-
-put-end-requires : tie.Need-put-end-requires
-put-end-requires c κs = search needs
-
-enum-known-p-2 : tie.Need-enum-known-p-2
-enum-known-p-2 c = search needs
 
 put-bar-requires-2 : tie.Need-put-bar-requires-2
 put-bar-requires-2 c κs =
     let s = c .before .before .before .before .before in
     let g = c .before .before .p2 .given in
-    let m = subst (Within mostConnections) (g .1) (s .pre .1 .1) in
+    let m = subst Within (g .1) (s .pre .1 .1) in
     (omega arith, (omega arith, m .0))
 
 put-bar-requires-3 : tie.Need-put-bar-requires-3
 put-bar-requires-3 c κs =
     let s = c .before .before .before .before .before .before .before .before .before in
     let g = c .before .before .before .before .before .before .p2 .given in
-    let m = subst (Within mostConnections) (g .1) (s .pre .1 .1) in
+    let m = subst Within (g .1) (s .pre .1 .1) in
     (omega arith, (omega arith, m .1))
-
-put-end-requires-2 : tie.Need-put-end-requires-2
-put-end-requires-2 c κs = search needs
-
-enum-told : tie.Need-enum-told
-enum-told c = search needs
-
-same-length : tie.Need-same-length
-same-length c = search needs
 
 returns : tie.Need-returns
 returns c =
@@ -57,9 +38,6 @@ returns c =
     let g = x .before .before .before .p .given in
     let s = x .before .before .before .before .before .before in
     wrote-one (now (s .args .buf)) (z .put-end .last .0) (z .put-end .result) (s .args .w) (s .args .p) (g .0 .0) (g .0 .1 .0) (g .1) (then (x .put-bar .ensures .0) (z .put-end .ensures))
-
-same-length-2 : tie.Need-same-length-2
-same-length-2 c = search needs
 
 returns-2 : tie.Need-returns-2
 returns-2 c =
@@ -71,22 +49,10 @@ returns-2 c =
     wrote-two (now (s .args .buf)) (z .put-end2 .last .0) (z .put-end2 .result) (s .args .w) (s .args .p) (g .0 .0) (g .0 .1 .0) (g .0 .1 .1 .0) (g .1) (then (then (v .put-bar2 .ensures .0) (x .put-bar3 .ensures .0)) (z .put-end2 .ensures))
 
 returns-3 : tie.Need-returns-3
-returns-3 c = let s = c .before .before .before in past-within mostConnections (s .args .p) (c .before .match .keys3) (s .pre .1 .1)
+returns-3 c = let s = c .before .before .before in past-within (s .args .p) (c .before .match .keys3) (s .pre .1 .1)
 
 pub put-clause-spec : {M : Type 1} → statement M
 put-clause-spec =
-    tie.close
-    (tie.spec
-    enum-known-p
-    put-bar-requires
-    put-end-requires
-    enum-known-p-2
-    put-bar-requires-2
-    put-bar-requires-3
-    put-end-requires-2
-    enum-told
-    same-length
-    returns
-    same-length-2
-    returns-2
-    returns-3)
+    tie.close (tie.spec (λ c. search needs) put-bar-requires (λ c κs. search needs)
+    (λ c. search needs) put-bar-requires-2 put-bar-requires-3 (λ c κs. search needs)
+    (λ c. search needs) (λ c. search needs) returns (λ c. search needs) returns-2 returns-3)

@@ -7,26 +7,11 @@ use borrow.Author.Needs.{needs}
 use Rattle.lines.proofs.put_literal.Statement.{statement}
 use Rattle.lines.proofs.put_literal.Tie as tie
 
-put-digits-requires : tie.Need-put-digits-requires
-put-digits-requires c κs = search needs
-
-same-length : tie.Need-same-length
-same-length c = search needs
-
 returns : tie.Need-returns
 returns c =
     let s = c .before .before .before .before .before .before in
     let a = s .args in
     (rw (literal-plain (a .negated) (a .variable) (not-true _ (c .before .before .before .before .if1 .taken))) (c .before .before .put-digits .ensures .0), omega arith)
-
-put-requires : tie.Need-put-requires
-put-requires c κs = search needs
-
-put-digits-requires-2 : tie.Need-put-digits-requires-2
-put-digits-requires-2 c κs = search needs
-
-same-length-2 : tie.Need-same-length-2
-same-length-2 c = search needs
 
 returns-2 : tie.Need-returns-2
 returns-2 c =
@@ -38,12 +23,5 @@ returns-2 c =
 
 pub put-literal-spec : {M : Type 1} → statement M
 put-literal-spec =
-    tie.close
-    (tie.spec
-    put-digits-requires
-    same-length
-    returns
-    put-requires
-    put-digits-requires-2
-    same-length-2
-    returns-2)
+    tie.close (tie.spec (λ c κs. search needs) (λ c. search needs) returns (λ c κs. search needs)
+    (λ c κs. search needs) (λ c. search needs) returns-2)

@@ -10,17 +10,8 @@ use Rattle.marks.proofs.base_of.Tie as tie
 code-is : (c : tie.After-code-of) → c .code-of .result .0 ≡ c .before .args .label .0 - 1
 code-is c = ap (λ (x : Code). x .0) (c .code-of .ensures)
 
-code-of-requires : tie.Need-code-of-requires
-code-of-requires c κs = search needs
-
-wide-requires : tie.Need-wide-requires
-wide-requires c κs = search needs
-
-mul-result : tie.Need-mul-result
-mul-result c = search needs
-
 returns : tie.Need-returns
 returns c = let p = c .before .before .pre in let e = code-is (c .before) in let w = c .wide .ensures .0 in (omega arith, omega (arith, p .0, p .1))
 
 pub base-of-spec : {M : Type 1} → statement M
-base-of-spec = tie.close (tie.spec code-of-requires wide-requires mul-result returns)
+base-of-spec = tie.close (tie.spec (search needs) (search needs) (search needs) returns)

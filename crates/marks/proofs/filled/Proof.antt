@@ -3,8 +3,8 @@ use native.Mathlib.Omega.{arith}
 use mathlib.Core.Path.{_≡_, refl, ap, _∙_}
 use Prim.Native.Nat.{_-_, _+_, _≤_}
 use denote.Ref.{now}
-use lib.ListN.{length, set, length-set}
-use Rattle.marks.specs.Marking.{markBytes, fill}
+use lib.ListN.{set}
+use Rattle.marks.specs.Marking.{fill}
 use Rattle.marks.proofs.Laws.{fill-next}
 use borrow.Author.Needs.{needs}
 use Rattle.marks.proofs.filled.Statement.{statement}
@@ -20,18 +20,6 @@ loop-holds : tie.Need-loop-holds Inv-loop μ-loop
 unfolding fill
 loop-holds c = (omega arith, refl)
 
-add-next : tie.Need-add-next Inv-loop μ-loop
-add-next c = search needs
-
-array-write-next : tie.Need-array-write-next Inv-loop μ-loop
-array-write-next c = search needs
-
-add-k : tie.Need-add-k Inv-loop μ-loop
-add-k c = search needs
-
-loop-less : tie.Need-loop-less Inv-loop μ-loop
-loop-less c = search needs
-
 loop-again : tie.Need-loop-again Inv-loop μ-loop
 loop-again c =
     let L = c .before in
@@ -45,14 +33,5 @@ returns c =
 
 pub filled-spec : {M : Type 1} → statement M
 filled-spec =
-    tie.close
-    (tie.spec
-    Inv-loop
-    μ-loop
-    loop-holds
-    add-next
-    array-write-next
-    add-k
-    loop-less
-    loop-again
-    returns)
+    tie.close (tie.spec Inv-loop μ-loop loop-holds (search needs) (search needs) (search needs)
+    (search needs) loop-again returns)

@@ -25,9 +25,6 @@ add-run-free c = let s = c .before .before .pre .short (c .before .if1 .left) in
 add-run-free-2 : tie.Need-add-run-free-2
 add-run-free-2 c = let s = c .before .before .pre .short (c .before .if1 .left) in omega arith
 
-sub-run-free : tie.Need-sub-run-free
-sub-run-free c = search needs
-
 run-free-requires : tie.Need-run-free-requires
 run-free-requires c κs = let s = c .before .before .pre .short (c .before .if1 .left) in omega (arith, c .base-of .ensures .1, c .before .if1 .left)
 
@@ -40,12 +37,5 @@ returns-2 c =
 
 pub fits-run-spec : {M : Type 1} → statement M
 fits-run-spec =
-    tie.close
-    (tie.spec
-    returns
-    base-of-requires
-    add-run-free
-    add-run-free-2
-    sub-run-free
-    run-free-requires
-    returns-2)
+    tie.close (tie.spec returns base-of-requires add-run-free add-run-free-2 (search needs)
+    run-free-requires returns-2)

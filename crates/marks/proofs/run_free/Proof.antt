@@ -21,26 +21,11 @@ loop-holds : tie.Need-loop-holds Inv-loop μ-loop
 unfolding allFree
 loop-holds c = search needs
 
-add-is-free : tie.Need-add-is-free Inv-loop μ-loop
-add-is-free c = search needs
-
-element-copy-out-is-free : tie.Need-element-copy-out-is-free Inv-loop μ-loop
-element-copy-out-is-free c = search needs
-
-is-free-requires : tie.Need-is-free-requires Inv-loop μ-loop
-is-free-requires c κs = search needs
-
 returns : tie.Need-returns Inv-loop μ-loop
 returns c =
     let L = c .before .before .before .before in
     let a = L .before .args in
     sym (all-free-fails (now (a .marks)) (a .at) (a .n) (L .loop .k) (omega arith) (sym (c .before .is-free .ensures) ∙ not-true _ (c .if1 .taken)))
-
-add-k : tie.Need-add-k Inv-loop μ-loop
-add-k c = search needs
-
-loop-less : tie.Need-loop-less Inv-loop μ-loop
-loop-less c = search needs
 
 loop-again : tie.Need-loop-again Inv-loop μ-loop
 loop-again c =
@@ -56,16 +41,5 @@ returns-2 c =
 
 pub run-free-spec : {M : Type 1} → statement M
 run-free-spec =
-    tie.close
-    (tie.spec
-    Inv-loop
-    μ-loop
-    loop-holds
-    add-is-free
-    element-copy-out-is-free
-    is-free-requires
-    returns
-    add-k
-    loop-less
-    loop-again
-    returns-2)
+    tie.close (tie.spec Inv-loop μ-loop loop-holds (search needs) (search needs) (search needs)
+    returns (search needs) (search needs) loop-again returns-2)

@@ -8,12 +8,6 @@ use Rattle.marks.specs.Marking.{fill, takenRun}
 use Rattle.marks.proofs.taken_run.Statement.{statement}
 use Rattle.marks.proofs.taken_run.Tie as tie
 
-add-filled : tie.Need-add-filled
-add-filled c = search needs
-
-cast-filled : tie.Need-cast-filled
-cast-filled c = search needs
-
 base-of-requires : tie.Need-base-of-requires
 base-of-requires c κs = let p = c .pre .1 in (p .label-low, p .label-high)
 
@@ -22,9 +16,6 @@ add-filled-2 c = let p = c .before .pre in let s = p .1 .short (p .2) in omega (
 
 add-filled-3 : tie.Need-add-filled-3
 add-filled-3 c = let p = c .before .pre in let s = p .1 .short (p .2) in omega arith
-
-sub-filled : tie.Need-sub-filled
-sub-filled c = search needs
 
 filled-requires : tie.Need-filled-requires
 filled-requires c κs = let p = c .before .pre in let s = p .1 .short (p .2) in omega (arith, c .base-of .ensures .1, p .2)
@@ -37,13 +28,5 @@ returns c =
 
 pub taken-run-spec : {M : Type 1} → statement M
 taken-run-spec =
-    tie.close
-    (tie.spec
-    add-filled
-    cast-filled
-    base-of-requires
-    add-filled-2
-    add-filled-3
-    sub-filled
-    filled-requires
-    returns)
+    tie.close (tie.spec (search needs) (search needs) base-of-requires add-filled-2 add-filled-3
+    (search needs) filled-requires returns)

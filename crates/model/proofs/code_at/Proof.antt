@@ -3,8 +3,9 @@ use mathlib.Core.Path.{_≡_, refl, sym, ap, _∙_}
 use Prim.Native.Nat.{_≤_, _+_, _-_, _*_}
 use native.Mathlib.Omega.{arith}
 use borrow.Author.Needs.{needs}
-use Rattle.clauses.proofs.Bits.{digit-le}
-use Rattle.model.specs.Codes.{codeFrom, plain}
+use Rattle.channel.specs.Label.{code}
+use Rattle.clauses.proofs.Joins.{bit-le}
+use Rattle.model.specs.Codes.{codeFrom, setIn}
 use Rattle.model.proofs.Coding.{code-next, code-room}
 use Rattle.model.proofs.code_at.Statement.{statement}
 use Rattle.model.proofs.code_at.Tie as tie
@@ -26,27 +27,12 @@ mul-code c =
     let r = code-room (a .marks .now) (a .v) (l .k) (omega arith) in
     omega (arith, l .inv .1)
 
-add-bit : tie.Need-add-bit Inv-loop μ-loop
-add-bit c = omega arith
-
-element-copy-out-bit : tie.Need-element-copy-out-bit Inv-loop μ-loop
-element-copy-out-bit c = omega arith
-
-bit-requires : tie.Need-bit-requires Inv-loop μ-loop
-bit-requires c κs = search needs
-
 add-code : tie.Need-add-code Inv-loop μ-loop
 add-code c =
     let l = c .before .before .before .loop in
     let a = c .before .before .before .before .args in
     let r = code-room (a .marks .now) (a .v) (l .k) (omega arith) in
-    omega (arith, l .inv .1, c .bit .ensures, digit-le (plain (a .marks .now) (a .v + l .k)))
-
-add-k : tie.Need-add-k Inv-loop μ-loop
-add-k c = omega arith
-
-loop-less : tie.Need-loop-less Inv-loop μ-loop
-loop-less c = omega arith
+    omega (arith, l .inv .1, c .bit .ensures, bit-le (setIn (a .marks .now) (a .v + l .k)))
 
 loop-again : tie.Need-loop-again Inv-loop μ-loop
 loop-again c =
@@ -59,21 +45,9 @@ returns c =
     let l = c .before .loop in
     let a = c .before .before .args in
     let e : l .k ≡ a .w = omega arith in
-    l .inv .1 ∙ ap (codeFrom (a .marks .now) (a .v)) e
+    ap code (l .inv .1 ∙ ap (codeFrom (a .marks .now) (a .v)) e)
 
 pub code-at-spec : {M : Type 1} → statement M
 code-at-spec =
-    tie.close
-    (tie.spec
-    Inv-loop
-    μ-loop
-    loop-holds
-    mul-code
-    add-bit
-    element-copy-out-bit
-    bit-requires
-    add-code
-    add-k
-    loop-less
-    loop-again
-    returns)
+    tie.close (tie.spec Inv-loop μ-loop loop-holds mul-code (λ c. omega arith) (λ c. omega arith)
+    (λ c κs. search needs) add-code (λ c. omega arith) (λ c. omega arith) loop-again returns)

@@ -1,78 +1,66 @@
--- The three groups one after the other: the first in which a place is found tells it, and one that is passed hands on how many there were.
+-- Passed so far are all rows before `row`, with their `k` places. Of a row only the place at its connection's code can be false.
+use mathlib.Core.Path.{_≡_, refl, sym, ap, _∙_, subst}
+use mathlib.Core.Logic.{inl}
+use mathlib.Core.Bool.{_&&_}
+use Prim.Native.Nat.{_≤_, _+_}
+use native.Mathlib.Omega.{arith}
 use borrow.Author.Needs.{needs}
-use Rattle.model.specs.Walks.{falseAt}
-use Rattle.model.proofs.Walking.{codes-most, codes-room, found-1, far-1, found-2, far-2, found-3}
+use lib.Dec.{eqb}
+use lib.ListN.{length, length-append}
+use Rattle.places.specs.Places.{rowPlaces, placesOf, placesBefore}
+use Rattle.places.specs.Table.{tableGrid, manyClauses}
+use Rattle.places.specs.Rows.{OnWalk, rowsLeft}
+use Rattle.places.proofs.Rows.{before-first, before-end, before-few, row-count}
+use Rattle.model.specs.Codes.{codeFor}
+use Rattle.model.specs.Walks.{FirstFalse}
+use Rattle.model.proofs.Walking.{Quiet, quiet-none, row-false, row-true}
 use Rattle.model.proofs.first_false.Statement.{statement}
 use Rattle.model.proofs.first_false.Tie as tie
 
-past-beyond-requires : tie.Need-past-beyond-requires
-past-beyond-requires c κs =
-    (codes-room (falseAt (c .args .codes .now)) (c .args .runs .now) (c .args .t) (c .args .m) (c .pre .0) (c .pre .1 .0) (c .args .top) (c .pre .1 .1 .0), (codes-most (falseAt (c .args .codes .now)) (c .args .runs .now) (c .args .t) (c .args .m) (c .pre .0) (c .pre .1 .0) (c .args .top) (c .pre .1 .1 .0), (c .pre .1 .0, c .pre .1 .1 .1)))
+abbrev Inv-loop : tie.InvT-loop
+Inv-loop runs t top m codes row₀ k₀ row k =
+    OnWalk m row × (k ≤ manyClauses) × (k ≡ length (placesBefore (tableGrid runs t m) row)) × Quiet codes (placesBefore (tableGrid runs t m) row)
 
-enum-known-p : tie.Need-enum-known-p
-enum-known-p c = search needs
+abbrev μ-loop : tie.MeasureT-loop
+μ-loop runs t top m codes row₀ k₀ row k = rowsLeft m row
 
-enum-told : tie.Need-enum-told
-enum-told c = search needs
+loop-holds : tie.Need-loop-holds Inv-loop μ-loop
+loop-holds c =
+    let a = c .args in let e = before-first (tableGrid (a .runs .now) (a .t) (a .m)) in
+    (record { stage = omega arith; inside = omega arith; end = λ z. inl (omega arith) }, omega arith, ap length (sym e), subst (Quiet (a .t2)) (sym e) (quiet-none (a .t2)))
 
-returns : tie.Need-returns
+returns : tie.Need-returns Inv-loop μ-loop
 returns c =
-    let p = c .before .before in
-    let s = p .before in
-    let g = c .enum-told .given in
-    found-1 (falseAt (s .args .codes .now)) (s .args .runs .now) (s .args .t) (s .args .m) (s .pre .0) (s .pre .1 .0) (s .args .top) (s .pre .1 .1 .0) (p .past-beyond .result) (p .past-beyond .ensures) (g .0 .0) (g .1)
+    let t = c .before in let f = t .before in let o = f .before .before .before .before .before in let l = o .before .before .before in let s = l .before in let a = s .args in
+    let row = l .loop .row in let in-row = o .before .if1 .taken in
+    let power = s .pre .1 .1 .0 in let below = s .pre .1 .1 .1 (row .i) in-row in
+    let test = ap (λ b. eqb (codeFor (a .t2) (o .other .result)) (codeFor (a .t2) (row .i)) && b) (sym (f .is-forbidden .ensures)) ∙ t .if2 .taken in
+    subst (λ n. FirstFalse (a .t2) (placesOf (tableGrid (a .runs .now) (a .t) (a .m))) (l .loop .k + n + 1)) (sym (c .count-to .ensures .0))
+    (row-false (a .runs .now) (a .t2) (a .t) (a .m) row (o .other .result) (o .other .ensures) (l .loop .inv .3) test (l .loop .inv .0 .stage) in-row (omega arith) (l .loop .k) (l .loop .inv .2))
 
-past-bars-requires : tie.Need-past-bars-requires
-past-bars-requires c κs =
-    let p = c .before .before .before in
-    let s = p .before in
-    let g = c .before .p .given in
-    (s .pre .1 .0, (s .pre .0, far-1 (falseAt (s .args .codes .now)) (s .args .runs .now) (s .args .t) (s .args .m) (s .pre .0) (s .pre .1 .0) (s .args .top) (s .pre .1 .1 .0) (p .past-beyond .result) (p .past-beyond .ensures) (g .0 .0) (g .1)))
+loop-less : tie.Need-loop-less Inv-loop μ-loop
+loop-less c = c .next-row .ensures .less
 
-enum-known-q : tie.Need-enum-known-q
-enum-known-q c = search needs
+loop-again : tie.Need-loop-again Inv-loop μ-loop
+loop-again c =
+    let n = c .before in let t = n .before in let f = t .before in let o = f .before .before .before .before .before in let l = o .before .before .before in let s = l .before in let a = s .args in
+    let row = l .loop .row in let g = tableGrid (a .runs .now) (a .t) (a .m) in let next = c .next-row .ensures in let passed = next .passed g refl in
+    let here = row-count (a .runs .now) (a .t) row (a .m) (a .top) (n .count-to2 .result) (s .pre .1 .1 .0) (n .count-to2 .ensures .0) in
+    let all = ap length passed ∙ length-append (placesBefore g row) (rowPlaces g row) in
+    let few = before-few (a .runs .now) (a .t) (a .m) (c .next-row .result) (s .pre .0) (s .pre .1 .0) (next .on) in
+    let test = ap (λ b. eqb (codeFor (a .t2) (o .other .result)) (codeFor (a .t2) (row .i)) && b) (sym (f .is-forbidden .ensures)) ∙ t .if2 .left in
+    let k = l .loop .inv .2 in
+    (next .on, omega arith, omega arith, subst (Quiet (a .t2)) (sym passed) (row-true (a .runs .now) (a .t2) (a .t) (a .m) row (o .other .result) (o .other .ensures) (l .loop .inv .3) test))
 
-enum-told-2 : tie.Need-enum-told-2
-enum-told-2 c = search needs
-
-returns-2 : tie.Need-returns-2
+returns-2 : tie.Need-returns-2 Inv-loop μ-loop
 returns-2 c =
-    let q = c .before .before in
-    let g = q .before .before .p .given in
-    let p = q .before .before .before .before in
-    let s = p .before in
-    let h = c .enum-told2 .given in
-    found-2 (falseAt (s .args .codes .now)) (s .args .runs .now) (s .args .t) (s .args .m) (s .pre .0) (s .pre .1 .0) (s .args .top) (s .pre .1 .1 .0) (p .past-beyond .result) (p .past-beyond .ensures) (g .0 .0) (g .1) (q .past-bars .result) (q .past-bars .ensures) (h .0 .0) (h .1)
-
-past-pairs-requires : tie.Need-past-pairs-requires
-past-pairs-requires c κs =
-    let h = c .before .q .given in
-    let q = c .before .before .before in
-    let g = q .before .before .p .given in
-    let p = q .before .before .before .before in
-    let s = p .before in
-    (s .pre .1 .0, (s .pre .0, far-2 (falseAt (s .args .codes .now)) (s .args .runs .now) (s .args .t) (s .args .m) (s .pre .0) (s .pre .1 .0) (s .args .top) (s .pre .1 .1 .0) (p .past-beyond .result) (p .past-beyond .ensures) (g .0 .0) (g .1) (q .past-bars .result) (q .past-bars .ensures) (h .0 .0) (h .1)))
-
-returns-3 : tie.Need-returns-3
-returns-3 c =
-    let h = c .before .before .q .given in
-    let q = c .before .before .before .before in
-    let g = q .before .before .p .given in
-    let p = q .before .before .before .before in
-    let s = p .before in
-    found-3 (falseAt (s .args .codes .now)) (s .args .runs .now) (s .args .t) (s .args .m) (s .pre .0) (s .pre .1 .0) (s .args .top) (s .pre .1 .1 .0) (p .past-beyond .result) (p .past-beyond .ensures) (g .0 .0) (g .1) (q .past-bars .result) (q .past-bars .ensures) (h .0 .0) (h .1) (c .past-pairs .result) (c .past-pairs .ensures)
+    let l = c .before .before in let a = l .before .args in
+    let e = before-end (tableGrid (a .runs .now) (a .t) (a .m)) (l .loop .row) (l .loop .inv .0) (c .if1 .left) in
+    (subst (Quiet (a .t2)) e (l .loop .inv .3), l .loop .inv .2 ∙ ap length e)
 
 pub first-false-spec : {M : Type 1} → statement M
 first-false-spec =
-    tie.close
-    (tie.spec
-    past-beyond-requires
-    enum-known-p
-    enum-told
-    returns
-    past-bars-requires
-    enum-known-q
-    enum-told-2
-    returns-2
-    past-pairs-requires
-    returns-3)
+    tie.close (tie.spec Inv-loop μ-loop loop-holds (λ c κs. search needs) (λ c. search needs)
+    (λ c. search needs) (λ c κs. search needs) (λ c κs. search needs) (λ c. omega arith)
+    (λ c. omega arith) returns (λ c κs. search needs) (λ c. omega arith) (λ c κs. search needs)
+    loop-less loop-again returns-2)

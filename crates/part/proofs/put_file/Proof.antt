@@ -7,24 +7,12 @@ use borrow.Author.Needs.{needs}
 use Rattle.part.proofs.put_file.Statement.{statement}
 use Rattle.part.proofs.put_file.Tie as tie
 
-sub-t : tie.Need-sub-t
-sub-t c = search needs
-
-put-tracks-requires : tie.Need-put-tracks-requires
-put-tracks-requires c κs = search needs
-
 put-text-requires : tie.Need-put-text-requires
 put-text-requires c κs =
     let a = c .before .before .before .before .before .before .before .before .before .args in
     let rule = c .before .before .before .before .before .before .before .before .before .pre .0 in
     let table : Table = tableOf (a .plain) (now (a .starts)) (now (a .ends)) in
     omega (arith, c .before .before .before .put-tracks .ensures .next, section-long table (rule .cut))
-
-cast-put-trailer : tie.Need-cast-put-trailer
-cast-put-trailer c = search needs
-
-cast-put-trailer-2 : tie.Need-cast-put-trailer-2
-cast-put-trailer-2 c = search needs
 
 put-trailer-requires : tie.Need-put-trailer-requires
 put-trailer-requires c κs =
@@ -38,9 +26,6 @@ put-trailer-requires c κs =
     let takes = c .before .before .before .before .before .before .before .before .before .before .before .before .before .pre .1 .0 in
     (omega arith, (omega arith, omega arith))
 
-same-length : tie.Need-same-length
-same-length c = search needs
-
 returns : tie.Need-returns
 returns c =
     let a = c .before .before .before .before .before .before .before .before .before .before .before .before .before .before .before .before .args in
@@ -51,13 +36,5 @@ returns c =
 
 pub put-file-spec : {M : Type 1} → statement M
 put-file-spec =
-    tie.close
-    (tie.spec
-    sub-t
-    put-tracks-requires
-    put-text-requires
-    cast-put-trailer
-    cast-put-trailer-2
-    put-trailer-requires
-    same-length
-    returns)
+    tie.close (tie.spec (search needs) (λ c κs. search needs) put-text-requires (search needs)
+    (search needs) put-trailer-requires (search needs) returns)

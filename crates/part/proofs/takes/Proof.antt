@@ -1,26 +1,11 @@
 -- `part::takes` meets its contract: each test that fails breaks one of the facts.
-use Rattle.refusals.proofs.Laws.{told-yes, told-no}
+use Rattle.facts.proofs.Tells.{told-yes, told-no}
 use Rattle.channel.specs.Limits.{Limits}
 use native.Mathlib.Omega.{arith}
 use Prim.Native.Nat.{_/_}
 use borrow.Author.Needs.{needs}
 use Rattle.part.proofs.takes.Statement.{statement}
 use Rattle.part.proofs.takes.Tie as tie
-
-mul-if1 : tie.Need-mul-if1
-mul-if1 c = search needs
-
-returns : tie.Need-returns
-returns c = search needs
-
-returns-2 : tie.Need-returns-2
-returns-2 c = search needs
-
-cast-within-limits : tie.Need-cast-within-limits
-cast-within-limits c = search needs
-
-within-limits-requires : tie.Need-within-limits-requires
-within-limits-requires c κs = search needs
 
 returns-3 : tie.Need-returns-3
 returns-3 c =
@@ -34,12 +19,5 @@ returns-4 c =
 
 pub takes-spec : {M : Type 1} → statement M
 takes-spec =
-    tie.close
-    (tie.spec
-    mul-if1
-    returns
-    returns-2
-    cast-within-limits
-    within-limits-requires
-    returns-3
-    returns-4)
+    tie.close (tie.spec (search needs) (search needs) (search needs) (search needs) (search needs)
+    returns-3 returns-4)

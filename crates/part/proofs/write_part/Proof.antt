@@ -4,8 +4,8 @@ use Prim.Native.Nat.{_-_}
 use native.Mathlib.Omega.{arith}
 use denote.Ref.{now}
 use lib.ListN.{length}
-use Rattle.refusals.proofs.Laws.{told-yes, told-no}
-use Rattle.part.specs.Part.{tableOf, Table, Part}
+use Rattle.facts.proofs.Tells.{told-no, told-yes}
+use Rattle.part.specs.Part.{Part, partOf}
 use Rattle.part.specs.Writes.{Takes}
 use Rattle.part.proofs.Sections.{ends-few, file-long}
 use Rattle.part.proofs.Answers.{answer-2, answer-5, answer-9, answer-file}
@@ -13,126 +13,52 @@ use borrow.Author.Needs.{needs}
 use Rattle.part.proofs.write_part.Statement.{statement}
 use Rattle.part.proofs.write_part.Tie as tie
 
-sub-t : tie.Need-sub-t
-sub-t c = search needs
+abbrev part : tie.Start → Part
+part s = partOf (s .args .n) (s .args .plain) (now (s .args .starts)) (now (s .args .ends))
 
-cast-takes : tie.Need-cast-takes
-cast-takes c = search needs
+-- whether the call is taken, and past the first test that it is
+abbrev Taken : tie.Start → Type 0
+Taken s = Takes (s .args .n) (length (now (s .args .starts)) - 1) (length (now (s .args .connections))) (s .args .limit)
 
-takes-requires : tie.Need-takes-requires
-takes-requires c κs = search needs
+taken : (e : tie.Else1) → Taken (e .before .before .before .before .before .before)
+taken e = told-yes _ (e .before .takes .result) (e .before .takes .ensures) (e .if1 .left)
 
 returns : tie.Need-returns
 returns c =
-    let a = c .before .before .before .before .before .before .args in
-    let rule = c .before .before .before .before .before .before .pre in
-    let table : Table = tableOf (a .plain) (now (a .starts)) (now (a .ends)) in
-    let part : Part = record { columns = a .n; table = table } in
-    let size = length (now (a .connections)) in
-    (answer-2 part (now (a .connections)) (a .limit) (length (now (a .buffer))) (told-no (Takes (a .n) (length (now (a .starts)) - 1) size (a .limit)) (c .before .takes .result) (c .before .takes .ensures) (c .if1 .taken)), refl)
-
-bad-connection-requires : tie.Need-bad-connection-requires
-bad-connection-requires c κs = search needs
+    let s = c .before .before .before .before .before .before in
+    (answer-2 (part s) (now (s .args .connections)) (s .args .limit) (length (now (s .args .buffer))) (told-no (Taken s) (c .before .takes .result) (c .before .takes .ensures) (c .if1 .taken)), refl)
 
 returns-2 : tie.Need-returns-2
 returns-2 c =
-    let a = c .before .before .before .before .before .before .before .before .args in
-    let rule = c .before .before .before .before .before .before .before .before .pre in
-    let table : Table = tableOf (a .plain) (now (a .starts)) (now (a .ends)) in
-    let part : Part = record { columns = a .n; table = table } in
-    let size = length (now (a .connections)) in
-    let takes = told-yes (Takes (a .n) (length (now (a .starts)) - 1) size (a .limit)) (c .before .before .before .takes .result) (c .before .before .before .takes .ensures) (c .before .before .if1 .left) in
-    (answer-5 part (now (a .connections)) (a .limit) (length (now (a .buffer))) takes (c .before .bad-connection .result) (c .before .bad-connection .ensures) (c .if2 .taken), refl)
-
-mul-if3 : tie.Need-mul-if3
-mul-if3 c = search needs
-
-add-if3 : tie.Need-add-if3
-add-if3 c = search needs
+    let s = c .before .before .before .before .before .before .before .before in
+    (answer-5 (part s) (now (s .args .connections)) (s .args .limit) (length (now (s .args .buffer))) (taken (c .before .before)) (c .before .bad-connection .result) (c .before .bad-connection .ensures) (c .if2 .taken), refl)
 
 add-if3-2 : tie.Need-add-if3-2
-add-if3-2 c =
-    let a = c .before .before .before .before .before .before .before .before .args in
-    let rule = c .before .before .before .before .before .before .before .before .pre in
-    let table : Table = tableOf (a .plain) (now (a .starts)) (now (a .ends)) in
-    let part : Part = record { columns = a .n; table = table } in
-    let size = length (now (a .connections)) in
-    let takes = told-yes (Takes (a .n) (length (now (a .starts)) - 1) size (a .limit)) (c .before .before .before .takes .result) (c .before .before .before .takes .ensures) (c .before .before .if1 .left) in
-    let few = ends-few table (rule .cut) in
-    omega arith
+add-if3-2 c = let s = c .before .before .before .before .before .before .before .before in let t = taken (c .before .before) in omega (arith, ends-few (part s .table) (s .pre .cut))
 
 add-if3-3 : tie.Need-add-if3-3
-add-if3-3 c =
-    let a = c .before .before .before .before .before .before .before .before .args in
-    let rule = c .before .before .before .before .before .before .before .before .pre in
-    let table : Table = tableOf (a .plain) (now (a .starts)) (now (a .ends)) in
-    let part : Part = record { columns = a .n; table = table } in
-    let size = length (now (a .connections)) in
-    let takes = told-yes (Takes (a .n) (length (now (a .starts)) - 1) size (a .limit)) (c .before .before .before .takes .result) (c .before .before .before .takes .ensures) (c .before .before .if1 .left) in
-    let few = ends-few table (rule .cut) in
-    omega arith
+add-if3-3 c = let s = c .before .before .before .before .before .before .before .before in let t = taken (c .before .before) in omega (arith, ends-few (part s .table) (s .pre .cut))
 
 returns-3 : tie.Need-returns-3
 returns-3 c =
-    let a = c .before .before .before .before .before .before .before .before .before .args in
-    let rule = c .before .before .before .before .before .before .before .before .before .pre in
-    let table : Table = tableOf (a .plain) (now (a .starts)) (now (a .ends)) in
-    let part : Part = record { columns = a .n; table = table } in
-    let size = length (now (a .connections)) in
-    let takes = told-yes (Takes (a .n) (length (now (a .starts)) - 1) size (a .limit)) (c .before .before .before .before .takes .result) (c .before .before .before .before .takes .ensures) (c .before .before .before .if1 .left) in
-    let long = file-long part rule (now (a .connections)) (a .limit) (takes .whole) in
-    (answer-9 part (now (a .connections)) (a .limit) (length (now (a .buffer))) takes (c .before .before .bad-connection .result) (c .before .before .bad-connection .ensures) (c .before .if2 .left) (omega arith), refl)
+    let e = c .before in
+    let s = e .before .before .before .before .before .before .before .before in
+    (answer-9 (part s) (now (s .args .connections)) (s .args .limit) (length (now (s .args .buffer))) (taken (e .before .before)) (e .before .bad-connection .result) (e .before .bad-connection .ensures) (e .if2 .left) (omega (arith, file-long (part s) (s .pre) (now (s .args .connections)) (s .args .limit) (taken (e .before .before) .whole))), refl)
 
 cast-put-file : tie.Need-cast-put-file
-cast-put-file c =
-    let a = c .before .before .before .before .before .before .before .before .before .before .args in
-    let rule = c .before .before .before .before .before .before .before .before .before .before .pre in
-    let table : Table = tableOf (a .plain) (now (a .starts)) (now (a .ends)) in
-    let part : Part = record { columns = a .n; table = table } in
-    let size = length (now (a .connections)) in
-    let takes = told-yes (Takes (a .n) (length (now (a .starts)) - 1) size (a .limit)) (c .before .before .before .before .before .takes .result) (c .before .before .before .before .before .takes .ensures) (c .before .before .before .before .if1 .left) in
-    omega arith
+cast-put-file c = let t = taken (c .before .before .before .before) in omega arith
 
 put-file-requires : tie.Need-put-file-requires
-put-file-requires c κs =
-    let a = c .before .before .before .before .before .before .before .before .before .before .args in
-    let rule = c .before .before .before .before .before .before .before .before .before .before .pre in
-    let table : Table = tableOf (a .plain) (now (a .starts)) (now (a .ends)) in
-    let part : Part = record { columns = a .n; table = table } in
-    let size = length (now (a .connections)) in
-    let takes = told-yes (Takes (a .n) (length (now (a .starts)) - 1) size (a .limit)) (c .before .before .before .before .before .takes .result) (c .before .before .before .before .before .takes .ensures) (c .before .before .before .before .if1 .left) in
-    (rule, (takes, omega arith))
-
-same-length : tie.Need-same-length
-same-length c = search needs
+put-file-requires c κs = (c .before .before .before .before .before .before .before .before .before .before .pre, (taken (c .before .before .before .before), omega arith))
 
 returns-4 : tie.Need-returns-4
 returns-4 c =
-    let a = c .before .before .before .before .before .before .before .before .before .before .before .before .before .args in
-    let rule = c .before .before .before .before .before .before .before .before .before .before .before .before .before .pre in
-    let table : Table = tableOf (a .plain) (now (a .starts)) (now (a .ends)) in
-    let part : Part = record { columns = a .n; table = table } in
-    let size = length (now (a .connections)) in
-    let takes = told-yes (Takes (a .n) (length (now (a .starts)) - 1) size (a .limit)) (c .before .before .before .before .before .before .before .before .takes .result) (c .before .before .before .before .before .before .before .before .takes .ensures) (c .before .before .before .before .before .before .before .if1 .left) in
-    let long = file-long part rule (now (a .connections)) (a .limit) (takes .whole) in
-    (answer-file part (now (a .connections)) (a .limit) (length (now (a .buffer))) takes (c .before .before .before .before .before .before .bad-connection .result) (c .before .before .before .before .before .before .bad-connection .ensures) (c .before .before .before .before .before .if2 .left) (omega arith), c .before .before .put-file .ensures)
+    let e = c .before .before .before .before .before in
+    let s = e .before .before .before .before .before .before .before .before in
+    (answer-file (part s) (now (s .args .connections)) (s .args .limit) (length (now (s .args .buffer))) (taken (e .before .before)) (e .before .bad-connection .result) (e .before .bad-connection .ensures) (e .if2 .left) (omega (arith, file-long (part s) (s .pre) (now (s .args .connections)) (s .args .limit) (taken (e .before .before) .whole))), c .before .before .put-file .ensures)
 
 pub write-part-spec : {M : Type 1} → statement M
 write-part-spec =
-    tie.close
-    (tie.spec
-    sub-t
-    cast-takes
-    takes-requires
-    returns
-    bad-connection-requires
-    returns-2
-    mul-if3
-    add-if3
-    add-if3-2
-    add-if3-3
-    returns-3
-    cast-put-file
-    put-file-requires
-    same-length
-    returns-4)
+    tie.close (tie.spec (search needs) (search needs) (search needs) returns (search needs)
+    returns-2 (search needs) (search needs) add-if3-2 add-if3-3 returns-3 cast-put-file
+    put-file-requires (search needs) returns-4)

@@ -1,63 +1,31 @@
--- The three groups one after the other: the first that has the place tells it, and one that ends before it hands back how many are left.
-use Rattle.places.proofs.Finding.{in-group-1, in-group-2, in-group-3}
+-- The row in which the number lies, and its code there; or the number lies behind the last row.
+use mathlib.Core.Path.{subst, ap}
+use Prim.Native.Nat.{_<_}
+use native.Mathlib.Omega.{arith}
 use borrow.Author.Needs.{needs}
+use lib.ListN.{length}
+use Rattle.places.proofs.Rows.{row-is}
+use Rattle.places.proofs.Finding.{found-in, found-past}
 use Rattle.places.proofs.find.Statement.{statement}
 use Rattle.places.proofs.find.Tie as tie
 
-size-of-requires : tie.Need-size-of-requires
-size-of-requires c κs = search needs
-
-group1-requires : tie.Need-group1-requires
-group1-requires c κs = search needs
-
-enum-known-p : tie.Need-enum-known-p
-enum-known-p c = search needs
-
 returns : tie.Need-returns
 returns c =
-    let g = c .before in
-    let z = g .before in
-    let a = z .before .args in
-    in-group-1 (a .runs .now) (a .t) (a .m) (a .n) (z .size-of .result .w) (z .size-of .result .top) (z .size-of .ensures) (g .group1 .result) (g .group1 .ensures) (c .match .keys2)
+    let k = c .before .before .before in let a = k .before .args in
+    found-past (a .runs .now) (a .t) (a .m) (a .n) (k .seek .result) (k .seek .ensures) (c .if1 .taken)
 
-group2-requires : tie.Need-group2-requires
-group2-requires c κs = search needs
-
-enum-known-q : tie.Need-enum-known-q
-enum-known-q c = search needs
+code-in-requires : tie.Need-code-in-requires
+code-in-requires c κs =
+    let k = c .before .before .before in let s = k .before in let a = s .args in
+    let row = k .seek .result .row in let o = k .seek .ensures .on .stage in let l = c .if1 .left in let m = s .pre .1 in
+    (record { tracks = s .pre .0; stage = omega arith; inside = omega arith }, subst (λ x. k .seek .result .rest < x) (ap length (row-is (a .runs .now) (a .t) row (a .m))) (k .seek .ensures .inside l))
 
 returns-2 : tie.Need-returns-2
 returns-2 c =
-    let h = c .before in
-    let v = h .before .before .p .given in
-    let g = h .before .before .before .before in
-    let z = g .before in
-    let a = z .before .args in
-    in-group-2 (a .runs .now) (a .t) (a .m) (a .n) (z .size-of .result .w) (z .size-of .result .top) (z .size-of .ensures) (g .group1 .result) (g .group1 .ensures) (v .0 .0) (v .1) (h .group2 .result) (h .group2 .ensures) (c .match2 .keys2)
-
-group3-requires : tie.Need-group3-requires
-group3-requires c κs = search needs
-
-returns-3 : tie.Need-returns-3
-returns-3 c =
-    let u = c .before .before .q .given in
-    let h = c .before .before .before .before in
-    let v = h .before .before .p .given in
-    let g = h .before .before .before .before in
-    let z = g .before in
-    let a = z .before .args in
-    in-group-3 (a .runs .now) (a .t) (a .m) (a .n) (z .size-of .result .w) (z .size-of .result .top) (z .size-of .ensures) (g .group1 .result) (g .group1 .ensures) (v .0 .0) (v .1) (h .group2 .result) (h .group2 .ensures) (u .0 .0) (u .1) (c .group3 .result) (c .group3 .ensures)
+    let o = c .before in let e = o .before in let k = e .before .before .before in let a = k .before .args in
+    found-in (a .runs .now) (a .t) (a .m) (a .n) (k .seek .result) (k .seek .ensures) (e .if1 .left) (o .code-in .result .0) (o .code-in .ensures) (c .place-at .result) (c .place-at .ensures)
 
 pub find-spec : {M : Type 1} → statement M
 find-spec =
-    tie.close
-    (tie.spec
-    size-of-requires
-    group1-requires
-    enum-known-p
-    returns
-    group2-requires
-    enum-known-q
-    returns-2
-    group3-requires
-    returns-3)
+    tie.close (tie.spec (λ c κs. search needs) returns code-in-requires (λ c κs. search needs)
+    returns-2)

@@ -9,12 +9,12 @@ use borrow.Author.Needs.{needs}
 use Rattle.lines.specs.declared.Answer.{Answer}
 use Rattle.lines.specs.declared.Answer.the-variants.{Line}
 use Rattle.lines.specs.Lined.{lineText}
-use Rattle.lines.specs.Writes.{Writes, Written}
+use Rattle.lines.specs.Writes.{WritesLine, WrittenLine}
 use Rattle.lines.proofs.Short.{line-short}
 use Rattle.replies.proofs.say_line.Statement.{statement}
 use Rattle.replies.proofs.say_line.Tie as tie
 
-written-fits : (f : List ℕ) (n : ℕ) (old new : List ℕ) (k : ℕ) → Written f n old new k → k ≤ length new
+written-fits : (f : List ℕ) (n : ℕ) (old new : List ℕ) (k : ℕ) → WrittenLine f n old new k → k ≤ length new
 written-fits f n old new k w =
     let short = line-short (w .job) (w .of-file .valid .limits .t-high) n in
     let room = w .room in
@@ -22,17 +22,8 @@ written-fits f n old new k w =
     let long = subst (λ (l : List ℕ). length l ≡ length old) (sym (w .wrote .is)) (length-sets old 0 (lineText (w .job) n)) in
     omega arith
 
-line-fits : (f : List ℕ) (n : ℕ) (old new : List ℕ) (r : Answer) (k : ℕ) → Writes f n old r new → r ≡ Line k → k ≤ length new
-line-fits f n old new r k w e = written-fits f n old new k (subst (λ (a : Answer). Writes f n old a new) e w)
-
-slice-aggregate-line : tie.Need-slice-aggregate-line
-slice-aggregate-line c = search needs
-
-line-requires : tie.Need-line-requires
-line-requires c κs = search needs
-
-enum-known-length : tie.Need-enum-known-length
-enum-known-length c = search needs
+line-fits : (f : List ℕ) (n : ℕ) (old new : List ℕ) (r : Answer) (k : ℕ) → WritesLine f n old r new → r ≡ Line k → k ≤ length new
+line-fits f n old new r k w e = written-fits f n old new k (subst (λ (a : Answer). WritesLine f n old a new) e w)
 
 array-share-prefix-line : tie.Need-array-share-prefix-line
 array-share-prefix-line c =
@@ -44,32 +35,7 @@ slice-aggregate-say c =
     let l = c .before .before .before .before .before .line2 in
     sym (length-take-le _ _ (line-fits _ _ _ _ _ _ (l .ensures) (c .before .before .length .given .1)))
 
-say-requires : tie.Need-say-requires
-say-requires c κs = search needs
-
-enum-known-number : tie.Need-enum-known-number
-enum-known-number c = search needs
-
-say-refused-requires : tie.Need-say-refused-requires
-say-refused-requires c κs = search needs
-
-returns : tie.Need-returns
-returns c = search needs
-
-returns-2 : tie.Need-returns-2
-returns-2 c = search needs
-
 pub say-line-spec : {M : Type 1} → statement M
 say-line-spec =
-    tie.close
-    (tie.spec
-    slice-aggregate-line
-    line-requires
-    enum-known-length
-    array-share-prefix-line
-    slice-aggregate-say
-    say-requires
-    enum-known-number
-    say-refused-requires
-    returns
-    returns-2)
+    tie.close (tie.spec (search needs) (search needs) (search needs) array-share-prefix-line
+    slice-aggregate-say (search needs) (search needs) (search needs) (search needs) (search needs))

@@ -3,19 +3,14 @@ use mathlib.Core.Path.{sym, subst, refl}
 use Prim.Native.Nat.{_*_}
 use native.Mathlib.Omega.{arith}
 use lib.ListN.{length}
+use Rattle.clauses.proofs.Width.{variables-few}
 use Rattle.jobfile.specs.Rows.{jobOf}
 use Rattle.reply.specs.Steps.{Answered}
 use Rattle.reply.proofs.Weighing.{sized-as}
-use Rattle.reply.proofs.Answering.{variables-few, answered-6, answered-claimed, answered-unknown, answered-wrong, answered-missing, answered-weighed}
+use Rattle.reply.proofs.Answering.{answered-6, answered-claimed, answered-unknown, answered-wrong, answered-missing, answered-weighed}
 use borrow.Author.Needs.{needs}
 use Rattle.reply.proofs.by_text.Statement.{statement}
 use Rattle.reply.proofs.by_text.Tie as tie
-
-size-of-requires : tie.Need-size-of-requires
-size-of-requires c κs = search needs
-
-wide-requires : tie.Need-wide-requires
-wide-requires c κs = search needs
 
 mul-top : tie.Need-mul-top
 mul-top c =
@@ -30,24 +25,6 @@ read-all-requires c κs =
     let s = z .before .before .before .before in
     let few = variables-few (s .args .m) (c .wide .result) (omega (arith, s .pre .m-is, s .pre .facts .limits .m-high)) (omega (arith, c .wide .ensures .0, z .size-of .ensures .few)) in
     omega arith
-
-enum-known-said : tie.Need-enum-known-said
-enum-known-said c = search needs
-
-refused-requires : tie.Need-refused-requires
-refused-requires c κs = search needs
-
-enum-told : tie.Need-enum-told
-enum-told c = search needs
-
-enum-told-2 : tie.Need-enum-told-2
-enum-told-2 c = search needs
-
-enum-known-said-2 : tie.Need-enum-known-said-2
-enum-known-said-2 c = search needs
-
-refused-requires-2 : tie.Need-refused-requires-2
-refused-requires-2 c κs = search needs
 
 returns : tie.Need-returns
 returns c =
@@ -69,9 +46,6 @@ add-refused c =
     let few = variables-few (s .args .m) (w .wide .result) (omega (arith, s .pre .m-is, s .pre .facts .limits .m-high)) (omega (arith, w .wide .ensures .0, z .size-of .ensures .few)) in
     omega arith
 
-refused-requires-3 : tie.Need-refused-requires-3
-refused-requires-3 c κs = search needs
-
 returns-2 : tie.Need-returns-2
 returns-2 c =
     let g = c .before .before .before .before .said2 .given in
@@ -83,9 +57,6 @@ returns-2 c =
     let size = sized-as (a .t) (z .size-of .result .w) (w .wide .result) (z .size-of .result .top) (w .wide .ensures .0) (z .size-of .ensures) in
     subst (λ r. Answered (jobOf (a .file .now)) (a .text .now) (a .labels .now) r (a .labels .now)) (sym (c .refused3 .ensures))
     (answered-missing (a .file .now) (a .text .now) (a .labels .now) (a .t) (a .m) (length (a .labels .now)) (w .wide .result) (a .m * w .wide .result) (z .size-of .result .top) (s .pre) size refl (d .read-all .result .answer) (d .read-all .result .wrong) (d .read-all .result .seen) (d .read-all .ensures) (g .0 .0) (g .1) (c .before .before .if1 .left) (c .before .if2 .taken))
-
-weigh-requires : tie.Need-weigh-requires
-weigh-requires c κs = search needs
 
 returns-3 : tie.Need-returns-3
 returns-3 c =
@@ -121,9 +92,6 @@ returns-5 c =
     let size = sized-as (a .t) (z .size-of .result .w) (w .wide .result) (z .size-of .result .top) (w .wide .ensures .0) (z .size-of .ensures) in
     answered-unknown (a .file .now) (a .text .now) (a .labels .now) (a .t) (a .m) (length (a .labels .now)) (w .wide .result) (a .m * w .wide .result) (z .size-of .result .top) (s .pre) size refl (d .read-all .result .answer) (d .read-all .result .wrong) (d .read-all .result .seen) (d .read-all .ensures) (g .1)
 
-same-length : tie.Need-same-length
-same-length c = search needs
-
 returns-6 : tie.Need-returns-6
 returns-6 c =
     let l = c .before .before in
@@ -139,25 +107,7 @@ returns-6 c =
 
 pub by-text-spec : {M : Type 1} → statement M
 by-text-spec =
-    tie.close
-    (tie.spec
-    size-of-requires
-    wide-requires
-    mul-top
-    read-all-requires
-    enum-known-said
-    refused-requires
-    enum-told
-    enum-told-2
-    enum-known-said-2
-    refused-requires-2
-    returns
-    add-refused
-    refused-requires-3
-    returns-2
-    weigh-requires
-    returns-3
-    returns-4
-    returns-5
-    same-length
-    returns-6)
+    tie.close (tie.spec (λ c κs. search needs) (λ c κs. search needs) mul-top read-all-requires
+    (λ c. search needs) (λ c κs. search needs) (λ c. search needs) (λ c. search needs)
+    (λ c. search needs) (λ c κs. search needs) returns add-refused (λ c κs. search needs) returns-2
+    (λ c κs. search needs) returns-3 returns-4 returns-5 (λ c. search needs) returns-6)

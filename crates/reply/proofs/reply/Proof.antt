@@ -6,24 +6,6 @@ use borrow.Author.Needs.{needs}
 use Rattle.reply.proofs.reply.Statement.{statement}
 use Rattle.reply.proofs.reply.Tie as tie
 
-read-job-requires : tie.Need-read-job-requires
-read-job-requires c κs = search needs
-
-enum-known-n : tie.Need-enum-known-n
-enum-known-n c = search needs
-
-refused-requires : tie.Need-refused-requires
-refused-requires c κs = search needs
-
-enum-known-t : tie.Need-enum-known-t
-enum-known-t c = search needs
-
-wide-requires : tie.Need-wide-requires
-wide-requires c κs = search needs
-
-refused-requires-2 : tie.Need-refused-requires-2
-refused-requires-2 c κs = search needs
-
 returns : tie.Need-returns
 returns c =
     let w = c .before .before in
@@ -51,9 +33,6 @@ returns-2 c =
     subst (λ r. Replies (s .args .file .now) (s .args .text .now) (s .args .labels .now) r (s .args .labels .now)) (sym (c .refused .ensures))
     (out-file (s .args .file .now) (s .args .text .now) (s .args .labels .now) (x .read-job .result) (x .read-job .ensures) (g .0 .0) (g .0 .1 .0) (g .1))
 
-same-length : tie.Need-same-length
-same-length c = search needs
-
 returns-3 : tie.Need-returns-3
 returns-3 c =
     let l = c .before .before in
@@ -67,16 +46,6 @@ returns-3 c =
 
 pub reply-spec : {M : Type 1} → statement M
 reply-spec =
-    tie.close
-    (tie.spec
-    read-job-requires
-    enum-known-n
-    refused-requires
-    enum-known-t
-    wide-requires
-    refused-requires-2
-    returns
-    by-text-requires
-    returns-2
-    same-length
-    returns-3)
+    tie.close (tie.spec (λ c κs. search needs) (λ c. search needs) (λ c κs. search needs)
+    (λ c. search needs) (λ c κs. search needs) (λ c κs. search needs) returns by-text-requires
+    returns-2 (λ c. search needs) returns-3)

@@ -3,28 +3,16 @@ use mathlib.Core.Path.{sym, subst}
 use native.Mathlib.Omega.{arith}
 use lib.ListN.{length}
 use Rattle.jobfile.specs.Rows.{jobOf}
-use Rattle.model.specs.Codes.{plain}
+use Rattle.model.specs.Codes.{setIn}
 use Rattle.reply.specs.Steps.{Weighs}
 use Rattle.reply.proofs.Weighing.{sized-as, codes-below, codes-few, weighs-false, weighs-true}
 use borrow.Author.Needs.{needs}
 use Rattle.reply.proofs.weigh.Statement.{statement}
 use Rattle.reply.proofs.weigh.Tie as tie
 
-size-of-requires : tie.Need-size-of-requires
-size-of-requires c κs = search needs
-
-wide-requires : tie.Need-wide-requires
-wide-requires c κs = search needs
-
-codes-of-requires : tie.Need-codes-of-requires
-codes-of-requires c κs = search needs
-
-table-requires : tie.Need-table-requires
-table-requires c κs = search needs
-
 first-false-requires : tie.Need-first-false-requires
 first-false-requires c κs =
-    let b = c .before .before in
+    let b = c .before in
     let o = b .before in
     let w = o .before in
     let z = w .before in
@@ -33,18 +21,9 @@ first-false-requires c κs =
     let size = sized-as (a .t) (z .size-of .result .w) (w .wide .result) (z .size-of .result .top) (w .wide .ensures .0) (z .size-of .ensures) in
     (omega (arith, s .pre .t-is, s .pre .facts .limits .t-high), (omega (arith, s .pre .m-is, s .pre .facts .limits .m-high), (z .size-of .ensures .power, codes-below (a .marks .now) (o .codes-of .result) (a .t) (w .wide .result) (z .size-of .result .top) (a .m) size (o .codes-of .ensures))))
 
-enum-known-place : tie.Need-enum-known-place
-enum-known-place c = search needs
-
-refused-requires : tie.Need-refused-requires
-refused-requires c κs = search needs
-
-enum-told : tie.Need-enum-told
-enum-told c = search needs
-
 write-labels-requires : tie.Need-write-labels-requires
 write-labels-requires c κs =
-    let b = c .before .before .before .before .before .before .before in
+    let b = c .before .before .before .before .before in
     let o = b .before in
     let w = o .before in
     let z = w .before in
@@ -57,25 +36,22 @@ returns : tie.Need-returns
 returns c =
     let g = c .before .before .place .given in
     let x = c .before .before .before .before in
-    let b = x .before .before .before in
+    let b = x .before .before in
     let o = b .before in
     let w = o .before in
     let z = w .before in
     let s = z .before .before .before in
     let a = s .args in
     let size = sized-as (a .t) (z .size-of .result .w) (w .wide .result) (z .size-of .result .top) (w .wide .ensures .0) (z .size-of .ensures) in
-    subst (λ r. Weighs (jobOf (a .file .now)) (plain (a .marks .now)) (a .labels .now) r (a .labels .now)) (sym (c .refused .ensures))
+    subst (λ r. Weighs (jobOf (a .file .now)) (setIn (a .marks .now)) (a .labels .now) r (a .labels .now)) (sym (c .refused .ensures))
     (weighs-false (a .file .now) (a .marks .now) (o .codes-of .result) (b .table .result) (a .t) (a .m) (length (a .labels .now)) (w .wide .result) (z .size-of .result .top) (s .pre) size (o .codes-of .ensures) (b .table .ensures) (x .first-false .result) (x .first-false .ensures) (g .0 .0) (g .1) (a .labels .now))
-
-same-length : tie.Need-same-length
-same-length c = search needs
 
 returns-2 : tie.Need-returns-2
 returns-2 c =
     let l = c .before .before in
-    let g = l .before .before .before .enum-told .given in
-    let x = l .before .before .before .before .before in
-    let b = x .before .before .before in
+    let g = l .before .before .enum-told .given in
+    let x = l .before .before .before .before in
+    let b = x .before .before in
     let o = b .before in
     let w = o .before in
     let z = w .before in
@@ -86,17 +62,6 @@ returns-2 c =
 
 pub weigh-spec : {M : Type 1} → statement M
 weigh-spec =
-    tie.close
-    (tie.spec
-    size-of-requires
-    wide-requires
-    codes-of-requires
-    table-requires
-    first-false-requires
-    enum-known-place
-    refused-requires
-    enum-told
-    write-labels-requires
-    returns
-    same-length
-    returns-2)
+    tie.close (tie.spec (λ c κs. search needs) (λ c κs. search needs) (λ c κs. search needs)
+    (λ c κs. search needs) first-false-requires (λ c. search needs) (λ c κs. search needs)
+    (λ c. search needs) write-labels-requires returns (λ c. search needs) returns-2)

@@ -4,45 +4,31 @@ use Prim.Native.Nat.{ℕ, _≤_, _<_, _-_}
 use native.Mathlib.Omega.{arith}
 use lib.ListN.{length, getD, drop, length-set}
 use lib.Seq.{drop-set-lt}
-use Rattle.clauses.specs.Clauses.{labelWith}
+use Rattle.channel.specs.Label.{code, labelOf}
 use Rattle.model.proofs.Coding.{set-next}
 use Rattle.reply.proofs.write_labels.Statement.{statement}
 use Rattle.reply.proofs.write_labels.Tie as tie
 
 abbrev Inv-loop : tie.InvT-loop
-Inv-loop codes m labels₀ i₀ labels i = (i ≤ m) × (length labels ≡ length labels₀) × ((x : ℕ) → x < i → getD labels x 0 ≡ labelWith (getD codes x 0)) × (drop m labels ≡ drop m labels₀)
+Inv-loop m labels₀ codes i₀ labels i = (i ≤ m) × (length labels ≡ length labels₀) × ((x : ℕ) → x < i → getD labels x 0 ≡ labelOf (getD codes x (code 0)) .0) × (drop m labels ≡ drop m labels₀)
 
 abbrev μ-loop : tie.MeasureT-loop
-μ-loop codes m labels₀ i₀ labels i = m - i
+μ-loop m labels₀ codes i₀ labels i = m - i
 
 loop-holds : tie.Need-loop-holds Inv-loop μ-loop
 loop-holds c = (omega arith, refl, (λ x l. absurd (omega arith)), refl)
 
-element-copy-out-t9 : tie.Need-element-copy-out-t9 Inv-loop μ-loop
-element-copy-out-t9 c = omega arith
-
 label-of-requires : tie.Need-label-of-requires Inv-loop μ-loop
-label-of-requires c κs = let b = c .before .before .before .before .pre .1 .1 (c .before .before .loop .i) (c .before .loop-test .taken) in omega arith
-
-slice-write-labels : tie.Need-slice-write-labels Inv-loop μ-loop
-slice-write-labels c = omega arith
-
-add-i : tie.Need-add-i Inv-loop μ-loop
-add-i c = omega arith
-
-loop-less : tie.Need-loop-less Inv-loop μ-loop
-loop-less c = omega arith
+label-of-requires c κs = let l = c .before .before in let b = l .before .before .pre .1 .1 (l .loop .i) (c .before .loop-test .taken) in omega arith
 
 loop-again : tie.Need-loop-again Inv-loop μ-loop
 loop-again c =
-    let l = c .before .before .before .loop in
-    let a = c .before .before .before .before .before .args in
-    let r = c .before .before .before .before .before .pre .1 .0 in
+    let t = c .before .before in let l = t .before .loop in let s = t .before .before .before in let a = s .args in let r = s .pre .1 .0 in
     let x = c .label-of .result .0 in (
       omega arith,
       length-set (l .labels) (l .i) x ∙ l .inv .1,
-      set-next (λ u. labelWith (getD (a .codes .now) u 0)) (l .labels) (l .i) x (let e = l .inv .1 in omega arith) (ap (λ y. y .0) (c .label-of .ensures)) (l .inv .2),
-      drop-set-lt (a .m) (l .labels) (l .i) x (c .before .before .loop-test .taken) ∙ l .inv .3,
+      set-next (λ u. labelOf (getD (a .t1) u (code 0)) .0) (l .labels) 0 (l .i) x (let e = l .inv .1 in omega arith) (ap (λ y. y .0) (c .label-of .ensures)) (l .inv .2),
+      drop-set-lt (a .m) (l .labels) (l .i) x (t .loop-test .taken) ∙ l .inv .3,
     )
 
 same-length : tie.Need-same-length Inv-loop μ-loop
@@ -55,16 +41,5 @@ returns c =
 
 pub write-labels-spec : {M : Type 1} → statement M
 write-labels-spec =
-    tie.close
-    (tie.spec
-    Inv-loop
-    μ-loop
-    loop-holds
-    element-copy-out-t9
-    label-of-requires
-    slice-write-labels
-    add-i
-    loop-less
-    loop-again
-    same-length
-    returns)
+    tie.close (tie.spec Inv-loop μ-loop loop-holds (λ c. omega arith) label-of-requires
+    (λ c. omega arith) (λ c. omega arith) (λ c. omega arith) loop-again same-length returns)

@@ -1,7 +1,7 @@
 -- Each way out writes the text that its answer prints: too long, refused, or the verdict's lines. Assumes nothing.
 use denote.Ref.{now}
 use native.Mathlib.Omega.{arith}
-use mathlib.Core.Path.{_≡_, refl, sym, subst}
+use mathlib.Core.Path.{_≡_, refl, sym, subst, _∙_}
 use mathlib.Core.List.{List}
 use Prim.Native.Nat.{ℕ, _≤_}
 use lib.ListN.{length, take, replicate}
@@ -37,7 +37,7 @@ found c =
     routed-found (input r) zeros (after r) programBudget (c .n .given .0 .0) (subst (λ (v : Verdict). Routes (input r) programBudget zeros v (after r)) (c .n .given .1) (r .route .ensures))
 
 count : (c : tie.After-wide) → c .wide .result ≡ mOf (input (c .before .before .before .before .before .before))
-count c = c .wide .ensures .0
+count c = c .wide .ensures .0 ∙ c .before .trailer-of .ensures .m-is
 
 -- the labels that are lent on: all of them, and at most the most connections
 lent : (c : tie.After-wide) → length (take (c .wide .result) (after (c .before .before .before .before .before .before))) ≡ c .wide .result
@@ -46,41 +46,11 @@ lent c = let f = found (c .before .before .before) in let h = f .few in let e = 
 most : (c : tie.After-wide) → c .wide .result ≤ mostConnections
 most c = let h = found (c .before .before .before) .facts .limits .m-high in omega (arith, count c)
 
-put-refusal-requires : tie.Need-put-refusal-requires
-put-refusal-requires c κs = search needs
-
 returns : tie.Need-returns
 returns c = let s = c .before .before .before .before in printed-long (now (s .args .input)) (now (s .args .text)) (c .put-refusal .last .0) (c .put-refusal .result) (omega arith) (c .before .before .if1 .taken) (c .put-refusal .ensures .0)
 
-slice-aggregate-route : tie.Need-slice-aggregate-route
-slice-aggregate-route c = search needs
-
-route-requires : tie.Need-route-requires
-route-requires c κs = search needs
-
-enum-known-n : tie.Need-enum-known-n
-enum-known-n c = search needs
-
-sub-wide : tie.Need-sub-wide
-sub-wide c = found (c .before) .facts .long
-
-add-wide : tie.Need-add-wide
-add-wide c = search needs
-
-shared-slice-read-wide : tie.Need-shared-slice-read-wide
-shared-slice-read-wide c = let h = found (c .before .before) .facts .long in omega arith
-
-wide-requires : tie.Need-wide-requires
-wide-requires c κs = search needs
-
-slice-aggregate-put-verdict : tie.Need-slice-aggregate-put-verdict
-slice-aggregate-put-verdict c = search needs
-
-cast-put-verdict : tie.Need-cast-put-verdict
-cast-put-verdict c = search needs
-
-put-verdict-requires : tie.Need-put-verdict-requires
-put-verdict-requires c κs = search needs
+trailer-of-requires : tie.Need-trailer-of-requires
+trailer-of-requires c κs = found (c .before) .facts .long
 
 array-share-prefix-labels : tie.Need-array-share-prefix-labels
 array-share-prefix-labels c = let w = c .before .before .before .before in let h = found (w .before .before .before) .few in omega (arith, count w)
@@ -98,36 +68,6 @@ put-rows-requires c κs =
     let l = lent w in
     let m = most w in
     (f .facts, subst (λ (x : ℕ). Routing (jobOf (input r)) (take x (after r))) (sym (count w)) (f .decides .0 .routing), omega arith)
-
-enum-known-n-2 : tie.Need-enum-known-n-2
-enum-known-n-2 c = search needs
-
-slice-aggregate-put-verdict-2 : tie.Need-slice-aggregate-put-verdict-2
-slice-aggregate-put-verdict-2 c = search needs
-
-cast-put-verdict-2 : tie.Need-cast-put-verdict-2
-cast-put-verdict-2 c = search needs
-
-put-verdict-requires-2 : tie.Need-put-verdict-requires-2
-put-verdict-requires-2 c κs = search needs
-
-enum-known-n-3 : tie.Need-enum-known-n-3
-enum-known-n-3 c = search needs
-
-slice-aggregate-put-verdict-3 : tie.Need-slice-aggregate-put-verdict-3
-slice-aggregate-put-verdict-3 c = search needs
-
-cast-put-verdict-3 : tie.Need-cast-put-verdict-3
-cast-put-verdict-3 c = search needs
-
-put-verdict-requires-3 : tie.Need-put-verdict-requires-3
-put-verdict-requires-3 c κs = search needs
-
-enum-known-n-4 : tie.Need-enum-known-n-4
-enum-known-n-4 c = search needs
-
-put-refusal-requires-2 : tie.Need-put-refusal-requires-2
-put-refusal-requires-2 c κs = search needs
 
 returns-2 : tie.Need-returns-2
 returns-2 c =
@@ -158,34 +98,10 @@ returns-5 c =
 
 pub report-spec : {M : Type 1} → statement M
 report-spec =
-    tie.close
-    (tie.spec
-    put-refusal-requires
-    returns
-    slice-aggregate-route
-    route-requires
-    enum-known-n
-    sub-wide
-    add-wide
-    shared-slice-read-wide
-    wide-requires
-    slice-aggregate-put-verdict
-    cast-put-verdict
-    put-verdict-requires
-    array-share-prefix-labels
-    slice-aggregate-put-rows
-    put-rows-requires
-    enum-known-n-2
-    slice-aggregate-put-verdict-2
-    cast-put-verdict-2
-    put-verdict-requires-2
-    enum-known-n-3
-    slice-aggregate-put-verdict-3
-    cast-put-verdict-3
-    put-verdict-requires-3
-    enum-known-n-4
-    put-refusal-requires-2
-    returns-2
-    returns-3
-    returns-4
+    tie.close (tie.spec (λ c κs. search needs) returns (λ c. search needs) (λ c κs. search needs)
+    (λ c. search needs) trailer-of-requires (λ c κs. search needs) (λ c. search needs)
+    (λ c. search needs) (λ c κs. search needs) array-share-prefix-labels slice-aggregate-put-rows
+    put-rows-requires (λ c. search needs) (λ c. search needs) (λ c. search needs)
+    (λ c κs. search needs) (λ c. search needs) (λ c. search needs) (λ c. search needs)
+    (λ c κs. search needs) (λ c. search needs) (λ c κs. search needs) returns-2 returns-3 returns-4
     returns-5)

@@ -15,7 +15,7 @@ use Rattle.jobfile.proofs.Exact.{job-numbers}
 use Rattle.marks.specs.Marking.{markBytes, marking}
 use Rattle.marks.proofs.Kept.{inside, by-marking}
 use Rattle.route.specs.declared.Verdict.the-variants.{Routed, Unroutable}
-use Rattle.route.specs.Cut.{Answers}
+use Rattle.route.specs.Cut.{CutTo}
 use Rattle.route.specs.Routes.{Judged}
 use Rattle.route.proofs.Verdicts.{judge-found, judge-dead, judge-spent}
 use borrow.Author.Needs.{needs}
@@ -30,13 +30,13 @@ connections-are : (c : tie.After-table) → let a = c .before .before .before .a
 connections-are c = c .before .before .before .pre .2 ∙ job-numbers (now (c .before .before .before .args .file)) .m-is
 
 -- what the search answers, of the routings
-answer : (c : tie.After-place-connection) → let a = c .before .before .before .before .before .before .args in Answers (a .budget) 0 (place (routings (jobOf (now (a .file)))) (M (jobOf (now (a .file)))) []) (now (a .labels)) (c .place-connection .result) (c .place-connection .last .1 .0)
+answer : (c : tie.After-place-connection) → let a = c .before .before .before .before .before .before .args in CutTo (a .budget) 0 (place (routings (jobOf (now (a .file)))) (M (jobOf (now (a .file)))) []) (now (a .labels)) (c .place-connection .result) (c .place-connection .last .1 .0)
 answer c =
     let d = c .before .before .before in
     let p = c .before .before .before .before .before .before in
     let a = p .args in
     let f = now (a .file) in
-    subst (λ (o : Res). Answers (a .budget) 0 o (now (a .labels)) (c .place-connection .result) (c .place-connection .last .1 .0))
+    subst (λ (o : Res). CutTo (a .budget) 0 o (now (a .labels)) (c .place-connection .result) (c .place-connection .last .1 .0))
     ((λ i. place (marking (d .table .result) (tracks-are d i)) ((sub-zero (a .m) ∙ connections-are d) i) (0, replicate markBytes 0))
     ∙ by-marking (jobOf f) (job-valid f (p .pre .0)) (d .table .result) (d .table .ensures))
     (c .place-connection .ensures)
@@ -51,9 +51,6 @@ found c =
 dead : (c : tie.After-known-told2) → let a = c .before .before .before .before .before .before .before .before .before .before .before .args in (c .before .left2 .given .0 .0 ≤ a .budget) × Judged (jobOf (now (a .file))) (a .budget) (now (a .labels)) (Unroutable (a .budget - c .before .left2 .given .0 .0)) (c .before .before .before .before .before .place-connection .last .1 .0)
 dead c = judge-dead (jobOf (now (c .before .before .before .before .before .before .before .before .before .before .before .args .file))) _ _ _ _ (rw (c .before .left2 .given .1) at (answer (c .before .before .before .before .before)))
 
-table-requires : tie.Need-table-requires
-table-requires c κs = search needs
-
 place-connection-requires : tie.Need-place-connection-requires
 place-connection-requires c κs =
     let d = c .before .before in
@@ -64,53 +61,23 @@ place-connection-requires c κs =
     let n = connections-are d in
     (record { narrow = (let x = v .limits .t-high in omega arith); inside = λ i l h k g. inside (jobOf f) v (d .table .result) (d .table .ensures) i l (omega arith) k (omega arith) }, omega arith, p .pre .3)
 
-enum-known-left : tie.Need-enum-known-left
-enum-known-left c = search needs
-
 sub-t16 : tie.Need-sub-t16
 sub-t16 c = found c .0
-
-enum-known-left-2 : tie.Need-enum-known-left-2
-enum-known-left-2 c = search needs
 
 sub-t17 : tie.Need-sub-t17
 sub-t17 c = dead c .0
 
-enum-told : tie.Need-enum-told
-enum-told c = search needs
-
-same-length : tie.Need-same-length
-same-length c = search needs
-
 returns : tie.Need-returns
 returns c = found c .1
 
-same-length-2 : tie.Need-same-length-2
-same-length-2 c = search needs
-
 returns-2 : tie.Need-returns-2
 returns-2 c = dead c .1
-
-same-length-3 : tie.Need-same-length-3
-same-length-3 c = search needs
 
 returns-3 : tie.Need-returns-3
 returns-3 c = judge-spent (jobOf (now (c .before .before .before .before .before .before .before .before .before .before .args .file))) _ _ _ (rw (c .enum-told .given .1) at (answer (c .before .before .before .before)))
 
 pub decide-spec : {M : Type 1} → statement M
 decide-spec =
-    tie.close
-    (tie.spec
-    table-requires
-    place-connection-requires
-    enum-known-left
-    sub-t16
-    enum-known-left-2
-    sub-t17
-    enum-told
-    same-length
-    returns
-    same-length-2
-    returns-2
-    same-length-3
-    returns-3)
+    tie.close (tie.spec (λ c. search needs) place-connection-requires (search needs) sub-t16
+    (search needs) sub-t17 (search needs) (search needs) returns (search needs) returns-2
+    (search needs) returns-3)

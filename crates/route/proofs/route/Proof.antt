@@ -13,18 +13,6 @@ use Rattle.route.proofs.route.Tie as tie
 read : (c : tie.After-wide) → Told (now (c .before .before .before .before .before .before .before .args .file)) (c .before .before .tracks .given .0 .0) (c .before .before .tracks .given .0 .1 .0) (c .before .before .tracks .given .0 .1 .1 .0) (c .before .before .tracks .given .0 .1 .1 .1 .0)
 read c = told (now (c .before .before .before .before .before .before .before .args .file)) _ _ _ _ (rw (c .before .before .tracks .given .1) at (c .before .before .before .before .read-job .ensures))
 
-read-job-requires : tie.Need-read-job-requires
-read-job-requires c κs = search needs
-
-enum-known-number : tie.Need-enum-known-number
-enum-known-number c = search needs
-
-enum-known-tracks : tie.Need-enum-known-tracks
-enum-known-tracks c = search needs
-
-wide-requires : tie.Need-wide-requires
-wide-requires c κs = search needs
-
 returns : tie.Need-returns
 returns c =
     let r = read (c .before) in
@@ -39,9 +27,6 @@ decide-requires c κs =
 returns-2 : tie.Need-returns-2
 returns-2 c = (refused-file _ _ _ _ (rw (c .before .number .given .1) at (c .before .before .before .read-job .ensures)), refl)
 
-same-length : tie.Need-same-length
-same-length c = search needs
-
 returns-3 : tie.Need-returns-3
 returns-3 c =
     let d = c .before .before in
@@ -52,14 +37,5 @@ returns-3 c =
 
 pub route-spec : {M : Type 1} → statement M
 route-spec =
-    tie.close
-    (tie.spec
-    read-job-requires
-    enum-known-number
-    enum-known-tracks
-    wide-requires
-    returns
-    decide-requires
-    returns-2
-    same-length
-    returns-3)
+    tie.close (tie.spec (search needs) (search needs) (search needs) (search needs) returns
+    decide-requires returns-2 (search needs) returns-3)

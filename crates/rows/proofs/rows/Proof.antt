@@ -41,26 +41,8 @@ room e = omega (arith, count (e .before), e .if1 .left)
 legal : (c : tie.After-enum-told) → let w = c .before .before .before .before in Judges (file w) (labels w) judgement.Legal
 legal c = let j = c .before .before in let w = j .before .before in subst (Judges (file w) (labels w)) (c .enum-told .given .1) (j .judge .ensures)
 
-read-job-requires : tie.Need-read-job-requires
-read-job-requires c κs = search needs
-
-enum-known-m : tie.Need-enum-known-m
-enum-known-m c = search needs
-
-wide-requires : tie.Need-wide-requires
-wide-requires c κs = search needs
-
-mul-if1 : tie.Need-mul-if1
-mul-if1 c = search needs
-
 returns : tie.Need-returns
 returns c = let w = c .before in (by-room (file w) (labels w) (length (old w)) (read w .facts) (omega (arith, count w, c .if1 .taken)), refl)
-
-judge-requires : tie.Need-judge-requires
-judge-requires c κs = search needs
-
-enum-told : tie.Need-enum-told
-enum-told c = search needs
 
 put-rows-requires : tie.Need-put-rows-requires
 put-rows-requires c κs =
@@ -68,15 +50,6 @@ put-rows-requires c κs =
     let w = e .before in
     let l = legal-routing (file w) (labels w) (legal (c .before)) in
     (read w .facts, l .1, omega (arith, room e, l .1 .whole, job-numbers (file w) .m-is))
-
-enum-known-number : tie.Need-enum-known-number
-enum-known-number c = search needs
-
-enum-known-n : tie.Need-enum-known-n
-enum-known-n c = search needs
-
-same-length : tie.Need-same-length
-same-length c = search needs
 
 returns-2 : tie.Need-returns-2
 returns-2 c =
@@ -103,19 +76,6 @@ returns-4 c =
 
 pub rows-spec : {M : Type 1} → statement M
 rows-spec =
-    tie.close
-    (tie.spec
-    read-job-requires
-    enum-known-m
-    wide-requires
-    mul-if1
-    returns
-    judge-requires
-    enum-told
-    put-rows-requires
-    enum-known-number
-    enum-known-n
-    same-length
-    returns-2
-    returns-3
-    returns-4)
+    tie.close (tie.spec (search needs) (search needs) (search needs) (search needs) returns
+    (search needs) (search needs) put-rows-requires (search needs) (search needs) (search needs)
+    returns-2 returns-3 returns-4)

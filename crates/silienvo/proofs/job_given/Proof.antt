@@ -2,30 +2,9 @@
 use borrow.Author.Needs.{needs}
 use native.Mathlib.Omega.{arith}
 use mathlib.Core.Path.{subst}
-use Rattle.silienvo.specs.Exports.{ReadFits}
+use Rattle.silienvo.specs.Fits.{ReadFits}
 use Rattle.silienvo.proofs.job_given.Statement.{statement}
 use Rattle.silienvo.proofs.job_given.Tie as tie
-
-enum-known-r : tie.Need-enum-known-r
-enum-known-r c = search needs
-
-wide-requires : tie.Need-wide-requires
-wide-requires c κs = search needs
-
-mul-part : tie.Need-mul-part
-mul-part c = search needs
-
-cast-t12 : tie.Need-cast-t12
-cast-t12 c = search needs
-
-cast-t13 : tie.Need-cast-t13
-cast-t13 c = search needs
-
-cast-t14 : tie.Need-cast-t14
-cast-t14 c = search needs
-
-cast-t15 : tie.Need-cast-t15
-cast-t15 c = search needs
 
 sub-t11 : tie.Need-sub-t11
 sub-t11 c =
@@ -39,12 +18,6 @@ sub-t16 c =
     let room = subst (ReadFits (b .before .before .args .length)) (b .r .given .1) (b .before .before .pre) in
     omega (arith, c .wide .ensures .0)
 
-enum-known-r-2 : tie.Need-enum-known-r-2
-enum-known-r-2 c = search needs
-
-cast-t19 : tie.Need-cast-t19
-cast-t19 c = search needs
-
 returns : tie.Need-returns
 returns c = rw (c .before .before .r .given .1, ← c .wide .ensures .0)
 
@@ -53,18 +26,5 @@ returns-2 c = rw (c .before .r2 .given .1)
 
 pub job-given-spec : {M : Type 1} → statement M
 job-given-spec =
-    tie.close
-    (tie.spec
-    enum-known-r
-    wide-requires
-    mul-part
-    cast-t12
-    cast-t13
-    cast-t14
-    cast-t15
-    sub-t11
-    sub-t16
-    enum-known-r-2
-    cast-t19
-    returns
-    returns-2)
+    tie.close (tie.spec (search needs) (search needs) (search needs) (search needs) (search needs)
+    (search needs) (search needs) sub-t11 sub-t16 (search needs) (search needs) returns returns-2)

@@ -3,15 +3,6 @@ use borrow.Author.Needs.{needs}
 use Rattle.silienvo.proofs.judgement_given.Statement.{statement}
 use Rattle.silienvo.proofs.judgement_given.Tie as tie
 
-enum-told : tie.Need-enum-told
-enum-told c = search needs
-
-enum-known-j : tie.Need-enum-known-j
-enum-known-j c = search needs
-
-cast-t5 : tie.Need-cast-t5
-cast-t5 c = search needs
-
 returns : tie.Need-returns
 returns c = rw (c .enum-told .given .1)
 
@@ -19,4 +10,5 @@ returns-2 : tie.Need-returns-2
 returns-2 c = rw (c .before .j .given .1)
 
 pub judgement-given-spec : {M : Type 1} → statement M
-judgement-given-spec = tie.close (tie.spec enum-told enum-known-j cast-t5 returns returns-2)
+judgement-given-spec =
+    tie.close (tie.spec (search needs) (search needs) (search needs) returns returns-2)

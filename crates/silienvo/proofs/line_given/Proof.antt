@@ -3,15 +3,6 @@ use borrow.Author.Needs.{needs}
 use Rattle.silienvo.proofs.line_given.Statement.{statement}
 use Rattle.silienvo.proofs.line_given.Tie as tie
 
-enum-known-l : tie.Need-enum-known-l
-enum-known-l c = search needs
-
-enum-known-l-2 : tie.Need-enum-known-l-2
-enum-known-l-2 c = search needs
-
-cast-t7 : tie.Need-cast-t7
-cast-t7 c = search needs
-
 returns : tie.Need-returns
 returns c = rw (c .before .l .given .1)
 
@@ -19,4 +10,5 @@ returns-2 : tie.Need-returns-2
 returns-2 c = rw (c .before .l2 .given .1)
 
 pub line-given-spec : {M : Type 1} → statement M
-line-given-spec = tie.close (tie.spec enum-known-l enum-known-l-2 cast-t7 returns returns-2)
+line-given-spec =
+    tie.close (tie.spec (search needs) (search needs) (search needs) returns returns-2)

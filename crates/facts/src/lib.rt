@@ -1,0 +1,1 @@
+// Tests and the facts they tell, with no word of the product. Definitions and laws only.

@@ -1,0 +1,16 @@
+-- `scan::tally::count_after` meets its contract: case by case, the definition itself.
+use borrow.Author.Tests.{ne-eqb, eq-eqb}
+use borrow.Author.Needs.{needs}
+use Rattle.scan.proofs.tally.count_after.Statement.{statement}
+use Rattle.scan.proofs.tally.count_after.Tie as tie
+
+returns-3 : tie.Need-returns-3
+returns-3 c = rw (c .before .enum-told3 .given .1) (simp (eq-eqb _ _ (c .if1 .taken)))
+
+returns-4 : tie.Need-returns-4
+returns-4 c = rw (c .before .enum-told3 .given .1) (simp (ne-eqb _ _ (c .if1 .left)))
+
+pub count-after-spec : {M : Type 1} → statement M
+count-after-spec =
+    tie.close (tie.spec (λ c. search needs) (λ c. search needs) (λ c. search needs)
+    (λ c. search needs) (λ c. search needs) (λ c. search needs) returns-3 returns-4)
