@@ -1,7 +1,7 @@
 // The exports for C: each public entry on numbers and slices, with an answer of plain numbers. include/silienvo.h says the same in plain words.
 // A slice passes as a pointer and a length. No function has a precondition.
 ghost use mathlib.Core.Path.{_≡_};
-ghost use Rattle.silienvo.specs.Exports.{jobGiven, verdictGiven, judgementGiven, rowsGiven, lineGiven, replyGiven, writtenGiven, ReadSays, RouteSays, JudgeSays, RowsSays, LineSays, ReplySays, PartSays, EditSays};
+ghost use Rattle.silienvo.specs.Exports.{refusal, given, jobGiven, verdictGiven, judgementGiven, rowsGiven, lineGiven, replyGiven, writtenGiven, ReadSays, RouteSays, JudgeSays, RowsSays, LineSays, ReplySays, PartSays, EditSays};
 ghost use Rattle.silienvo.specs.Fits.{ReadFits};
 use jobfile::Read;
 use judge::Judgement;
@@ -70,30 +70,36 @@ fn job_given(length: usize, r: Read) -> SilienvoJob
     }
 }
 
+// A refusal by a row of the table, at a place.
+fn refused(number: u8, place: usize) -> SilienvoAnswer
+    ensures { λ r. ⌜ r ≡ refusal number place ⌝ }
+{
+    SilienvoAnswer {
+        kind: 0,
+        number: number as u32,
+        value: place as u64,
+    }
+}
+
+// Another kind of answer, with its value.
+fn told(kind: u32, value: u64) -> SilienvoAnswer
+    ensures { λ r. ⌜ r ≡ given kind value ⌝ }
+{
+    SilienvoAnswer {
+        kind,
+        number: 0,
+        value,
+    }
+}
+
 fn verdict_given(v: Verdict) -> SilienvoAnswer
     ensures { λ r. ⌜ r ≡ verdictGiven v ⌝ }
 {
     match v {
-        Verdict::Routed(trials) => SilienvoAnswer {
-            kind: 1,
-            number: 0,
-            value: trials as u64,
-        },
-        Verdict::Unroutable(trials) => SilienvoAnswer {
-            kind: 2,
-            number: 0,
-            value: trials as u64,
-        },
-        Verdict::Undecided(trials) => SilienvoAnswer {
-            kind: 3,
-            number: 0,
-            value: trials as u64,
-        },
-        Verdict::Refused { number, place } => SilienvoAnswer {
-            kind: 0,
-            number: number as u32,
-            value: place as u64,
-        },
+        Verdict::Routed(trials) => told(1, trials as u64),
+        Verdict::Unroutable(trials) => told(2, trials as u64),
+        Verdict::Undecided(trials) => told(3, trials as u64),
+        Verdict::Refused { number, place } => refused(number, place),
     }
 }
 
@@ -101,16 +107,8 @@ fn judgement_given(j: Judgement) -> SilienvoAnswer
     ensures { λ r. ⌜ r ≡ judgementGiven j ⌝ }
 {
     match j {
-        Judgement::Legal => SilienvoAnswer {
-            kind: 1,
-            number: 0,
-            value: 0,
-        },
-        Judgement::Refused { number, place } => SilienvoAnswer {
-            kind: 0,
-            number: number as u32,
-            value: place as u64,
-        },
+        Judgement::Legal => told(1, 0),
+        Judgement::Refused { number, place } => refused(number, place),
     }
 }
 
@@ -118,16 +116,8 @@ fn rows_given(a: rows::Answer) -> SilienvoAnswer
     ensures { λ r. ⌜ r ≡ rowsGiven a ⌝ }
 {
     match a {
-        rows::Answer::Text(length) => SilienvoAnswer {
-            kind: 1,
-            number: 0,
-            value: length as u64,
-        },
-        rows::Answer::Refused { number, place } => SilienvoAnswer {
-            kind: 0,
-            number: number as u32,
-            value: place as u64,
-        },
+        rows::Answer::Text(length) => told(1, length as u64),
+        rows::Answer::Refused { number, place } => refused(number, place),
     }
 }
 
@@ -135,16 +125,8 @@ fn line_given(l: lines::Answer) -> SilienvoAnswer
     ensures { λ r. ⌜ r ≡ lineGiven l ⌝ }
 {
     match l {
-        lines::Answer::Line(length) => SilienvoAnswer {
-            kind: 1,
-            number: 0,
-            value: length as u64,
-        },
-        lines::Answer::Refused { number, place } => SilienvoAnswer {
-            kind: 0,
-            number: number as u32,
-            value: place as u64,
-        },
+        lines::Answer::Line(length) => told(1, length as u64),
+        lines::Answer::Refused { number, place } => refused(number, place),
     }
 }
 
@@ -152,26 +134,10 @@ fn reply_given(a: reply::Answer) -> SilienvoAnswer
     ensures { λ r. ⌜ r ≡ replyGiven a ⌝ }
 {
     match a {
-        reply::Answer::Accepted => SilienvoAnswer {
-            kind: 1,
-            number: 0,
-            value: 0,
-        },
-        reply::Answer::Claimed => SilienvoAnswer {
-            kind: 2,
-            number: 0,
-            value: 0,
-        },
-        reply::Answer::Unknown => SilienvoAnswer {
-            kind: 3,
-            number: 0,
-            value: 0,
-        },
-        reply::Answer::Refused { number, place } => SilienvoAnswer {
-            kind: 0,
-            number: number as u32,
-            value: place as u64,
-        },
+        reply::Answer::Accepted => told(1, 0),
+        reply::Answer::Claimed => told(2, 0),
+        reply::Answer::Unknown => told(3, 0),
+        reply::Answer::Refused { number, place } => refused(number, place),
     }
 }
 
@@ -179,16 +145,8 @@ fn written_given(w: Written) -> SilienvoAnswer
     ensures { λ r. ⌜ r ≡ writtenGiven w ⌝ }
 {
     match w {
-        Written::File(length) => SilienvoAnswer {
-            kind: 1,
-            number: 0,
-            value: length as u64,
-        },
-        Written::Refused { number, place } => SilienvoAnswer {
-            kind: 0,
-            number: number as u32,
-            value: place as u64,
-        },
+        Written::File(length) => told(1, length as u64),
+        Written::Refused { number, place } => refused(number, place),
     }
 }
 
