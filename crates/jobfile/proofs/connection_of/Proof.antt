@@ -8,5 +8,5 @@ returns c = rw (c .before .connections-at .ensures) at (c .connection-read .ensu
 
 pub connection-of-spec : {M : Type 1} → statement M
 connection-of-spec =
-    tie.close (tie.spec (λ c κs. search needs) (λ c. search needs) (λ c. search needs)
-    (λ c κs. search needs) returns)
+    tie.close (tie.spec (search needs) (search needs) (search needs)
+    (search needs) returns)

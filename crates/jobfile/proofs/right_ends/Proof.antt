@@ -15,5 +15,5 @@ returns c =
 
 pub right-ends-spec : {M : Type 1} → statement M
 right-ends-spec =
-    tie.close (tie.spec (λ c. search needs) (λ c κs. search needs) (λ c. search needs)
-    (λ c. search needs) (λ c. search needs) returns)
+    tie.close (tie.spec (search needs) (search needs) (search needs)
+    (search needs) (search needs) returns)

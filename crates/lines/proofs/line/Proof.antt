@@ -64,5 +64,5 @@ returns-3 c =
 
 pub line-spec : {M : Type 1} → statement M
 line-spec =
-    tie.close (tie.spec (λ c κs. search needs) (λ c. search needs) (λ c. search needs) returns
-    table-requires (λ c κs. search needs) line-of-requires returns-2 (λ c. search needs) returns-3)
+    tie.close (tie.spec (search needs) (search needs) (search needs) returns
+    table-requires (search needs) line-of-requires returns-2 (search needs) returns-3)

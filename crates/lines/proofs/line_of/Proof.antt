@@ -55,7 +55,7 @@ returns-3 c =
 
 pub line-of-spec : {M : Type 1} → statement M
 line-of-spec =
-    tie.close (tie.spec (λ c κs. search needs) (λ c κs. search needs) (λ c. search needs)
-    mul-put-header put-header-requires (λ c. search needs) returns (λ c. search needs)
-    (λ c κs. search needs) (λ c. search needs) returns-2 put-clause-requires (λ c. search needs)
+    tie.close (tie.spec (search needs) (search needs) (search needs)
+    mul-put-header put-header-requires (search needs) returns (search needs)
+    (search needs) (search needs) returns-2 put-clause-requires (search needs)
     returns-3)

@@ -53,6 +53,6 @@ returns-3 c = let s = c .before .before .before in past-within (s .args .p) (c .
 
 pub put-clause-spec : {M : Type 1} → statement M
 put-clause-spec =
-    tie.close (tie.spec (λ c. search needs) put-bar-requires (λ c κs. search needs)
-    (λ c. search needs) put-bar-requires-2 put-bar-requires-3 (λ c κs. search needs)
-    (λ c. search needs) (λ c. search needs) returns (λ c. search needs) returns-2 returns-3)
+    tie.close (tie.spec (search needs) put-bar-requires (search needs)
+    (search needs) put-bar-requires-2 put-bar-requires-3 (search needs)
+    (search needs) (search needs) returns (search needs) returns-2 returns-3)

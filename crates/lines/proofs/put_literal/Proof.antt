@@ -23,5 +23,5 @@ returns-2 c =
 
 pub put-literal-spec : {M : Type 1} → statement M
 put-literal-spec =
-    tie.close (tie.spec (λ c κs. search needs) (λ c. search needs) returns (λ c κs. search needs)
-    (λ c κs. search needs) (λ c. search needs) returns-2)
+    tie.close (tie.spec (search needs) (search needs) returns (search needs)
+    (search needs) (search needs) returns-2)

@@ -50,4 +50,4 @@ returns c =
 pub code-at-spec : {M : Type 1} → statement M
 code-at-spec =
     tie.close (tie.spec Inv-loop μ-loop loop-holds mul-code (λ c. omega arith) (λ c. omega arith)
-    (λ c κs. search needs) add-code (λ c. omega arith) (λ c. omega arith) loop-again returns)
+    (search needs) add-code (λ c. omega arith) (λ c. omega arith) loop-again returns)

@@ -43,5 +43,5 @@ returns c =
 
 pub codes-of-spec : {M : Type 1} → statement M
 codes-of-spec =
-    tie.close (tie.spec Inv-loop μ-loop loop-holds (λ c κs. search needs) (λ c. omega arith)
+    tie.close (tie.spec Inv-loop μ-loop loop-holds (search needs) (λ c. omega arith)
     (λ c. omega arith) (λ c. omega arith) (λ c. omega arith) loop-again returns)

@@ -60,7 +60,7 @@ returns-2 c =
 
 pub first-false-spec : {M : Type 1} → statement M
 first-false-spec =
-    tie.close (tie.spec Inv-loop μ-loop loop-holds (λ c κs. search needs) (λ c. search needs)
-    (λ c. search needs) (λ c κs. search needs) (λ c κs. search needs) (λ c. omega arith)
-    (λ c. omega arith) returns (λ c κs. search needs) (λ c. omega arith) (λ c κs. search needs)
+    tie.close (tie.spec Inv-loop μ-loop loop-holds (search needs) (search needs)
+    (search needs) (search needs) (search needs) (λ c. omega arith)
+    (λ c. omega arith) returns (search needs) (λ c. omega arith) (search needs)
     loop-less loop-again returns-2)

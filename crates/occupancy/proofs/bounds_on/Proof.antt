@@ -40,5 +40,5 @@ returns c =
 
 pub bounds-on-spec : {M : Type 1} → statement M
 bounds-on-spec =
-    tie.close (tie.spec (λ c κs. search needs) (λ c κs. search needs) (λ c. search needs)
+    tie.close (tie.spec (search needs) (search needs) (search needs)
     element-copy-out-bounds-at bounds-at-requires returns)

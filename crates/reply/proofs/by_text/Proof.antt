@@ -107,7 +107,7 @@ returns-6 c =
 
 pub by-text-spec : {M : Type 1} → statement M
 by-text-spec =
-    tie.close (tie.spec (λ c κs. search needs) (λ c κs. search needs) mul-top read-all-requires
-    (λ c. search needs) (λ c κs. search needs) (λ c. search needs) (λ c. search needs)
-    (λ c. search needs) (λ c κs. search needs) returns add-refused (λ c κs. search needs) returns-2
-    (λ c κs. search needs) returns-3 returns-4 returns-5 (λ c. search needs) returns-6)
+    tie.close (tie.spec (search needs) (search needs) mul-top read-all-requires
+    (search needs) (search needs) (search needs) (search needs)
+    (search needs) (search needs) returns add-refused (search needs) returns-2
+    (λ c. search needs) returns-3 returns-4 returns-5 (search needs) returns-6)

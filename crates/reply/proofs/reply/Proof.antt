@@ -46,6 +46,6 @@ returns-3 c =
 
 pub reply-spec : {M : Type 1} → statement M
 reply-spec =
-    tie.close (tie.spec (λ c κs. search needs) (λ c. search needs) (λ c κs. search needs)
-    (λ c. search needs) (λ c κs. search needs) (λ c κs. search needs) returns by-text-requires
-    returns-2 (λ c. search needs) returns-3)
+    tie.close (tie.spec (search needs) (search needs) (search needs)
+    (search needs) (search needs) (search needs) returns by-text-requires
+    returns-2 (search needs) returns-3)

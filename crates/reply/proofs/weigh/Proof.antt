@@ -62,6 +62,6 @@ returns-2 c =
 
 pub weigh-spec : {M : Type 1} → statement M
 weigh-spec =
-    tie.close (tie.spec (λ c κs. search needs) (λ c κs. search needs) (λ c κs. search needs)
-    (λ c κs. search needs) first-false-requires (λ c. search needs) (λ c κs. search needs)
-    (λ c. search needs) write-labels-requires returns (λ c. search needs) returns-2)
+    tie.close (tie.spec (search needs) (search needs) (search needs)
+    (λ c. search needs) first-false-requires (search needs) (search needs)
+    (search needs) write-labels-requires returns (search needs) returns-2)

@@ -48,8 +48,8 @@ returns c =
 
 pub read-spec : {M : Type 1} → statement M
 read-spec =
-    tie.close (tie.spec Inv-loop μ-loop loop-holds (λ c. search needs) (λ c κs. search needs)
-    (λ c κs. search needs) (λ c κs. search needs) (λ c κs. search needs) (λ c κs. search needs)
-    (λ c. search needs) (λ c κs. search needs) (λ c. search needs) (λ c κs. search needs)
-    (λ c. search needs) (λ c. search needs) loop-again (λ c κs. search needs)
-    (λ c κs. search needs) (λ c κs. search needs) returns)
+    tie.close (tie.spec Inv-loop μ-loop loop-holds (search needs) (search needs)
+    (search needs) (search needs) (search needs) (λ c. search needs)
+    (search needs) (search needs) (search needs) (search needs)
+    (search needs) (search needs) loop-again (search needs)
+    (search needs) (λ c κs. search needs) returns)

@@ -53,5 +53,5 @@ returns-3 c = let a = c .before .before .args in codes (a .text .now) (a .i) (a 
 
 pub ended-spec : {M : Type 1} → statement M
 ended-spec =
-    tie.close (tie.spec (λ c. search needs) sub-status part-status-start (λ c. search needs)
-    (λ c κs. search needs) returns returns-2 returns-3)
+    tie.close (tie.spec (search needs) sub-status part-status-start (search needs)
+    (search needs) returns returns-2 returns-3)

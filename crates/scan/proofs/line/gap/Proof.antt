@@ -14,4 +14,4 @@ returns-3 : tie.Need-returns-3
 returns-3 c = let n = c .before .match .rest in rw (ne-eqb _ 45 (n .0 .1), ne-eqb _ 48 (n .1)) (c .leading .ensures)
 
 pub gap-spec : {M : Type 1} → statement M
-gap-spec = tie.close (tie.spec (λ c κs. search needs) returns returns-2 returns-3)
+gap-spec = tie.close (tie.spec (search needs) returns returns-2 returns-3)

@@ -16,4 +16,4 @@ returns-3 c = let b = c .before .before .args .b in simp (le-leb 49 b (omega ari
 
 pub leading-spec : {M : Type 1} → statement M
 leading-spec =
-    tie.close (tie.spec (λ c κs. search needs) (λ c. search needs) returns returns-2 returns-3)
+    tie.close (tie.spec (search needs) (search needs) returns returns-2 returns-3)

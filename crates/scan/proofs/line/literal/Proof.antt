@@ -38,5 +38,5 @@ returns-3 c = go (c .before .args .m) (c .match .keys3)
 
 pub literal-spec : {M : Type 1} → statement M
 literal-spec =
-    tie.close (tie.spec (λ c. search needs) (λ c. search needs) returns (λ c. search needs)
+    tie.close (tie.spec (search needs) (search needs) returns (λ c. search needs)
     returns-3)

@@ -26,5 +26,5 @@ returns-5 c = let b = c .before .before .before .args .b in simp (ne-eqb b 32 (c
 
 pub number-spec : {M : Type 1} → statement M
 number-spec =
-    tie.close (tie.spec (λ c. search needs) (λ c κs. search needs) (λ c. search needs)
-    (λ c. search needs) returns returns-2 returns-3 returns-4 returns-5)
+    tie.close (tie.spec (search needs) (search needs) (search needs)
+    (search needs) returns returns-2 returns-3 returns-4 returns-5)

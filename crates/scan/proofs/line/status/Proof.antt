@@ -28,5 +28,5 @@ returns-4 c =
 
 pub status-spec : {M : Type 1} → statement M
 status-spec =
-    tie.close (tie.spec (λ c. search needs) (λ c κs. search needs) returns (λ c. search needs)
-    (λ c κs. search needs) returns-2 (λ c. search needs) (λ c κs. search needs) returns-3 returns-4)
+    tie.close (tie.spec (search needs) (search needs) returns (search needs)
+    (search needs) returns-2 (search needs) (search needs) returns-3 returns-4)

@@ -33,10 +33,10 @@ returns-10 c = rw (c .before .enum-told8 .given .1) (c .only-blank4 .ensures)
 
 pub step-spec : {M : Type 1} → statement M
 step-spec =
-    tie.close (tie.spec (λ c. search needs) (λ c κs. search needs) (λ c. search needs)
-    (λ c κs. search needs) (λ c. search needs) (λ c. search needs) (λ c κs. search needs)
-    (λ c. search needs) (λ c. search needs) (λ c κs. search needs) (λ c. search needs)
-    (λ c κs. search needs) (λ c. search needs) (λ c κs. search needs) (λ c. search needs)
-    (λ c κs. search needs) (λ c. search needs) (λ c κs. search needs) (λ c. search needs) returns
+    tie.close (tie.spec (search needs) (search needs) (search needs)
+    (search needs) (search needs) (search needs) (search needs)
+    (search needs) (search needs) (search needs) (search needs)
+    (search needs) (search needs) (search needs) (search needs)
+    (search needs) (search needs) (search needs) (search needs) returns
     returns-2 (λ c. search needs) returns-4 returns-5 returns-6 returns-7 returns-8 returns-9
     returns-10 (λ c. search needs))

@@ -42,5 +42,5 @@ returns-5 c =
 
 pub mark-spec : {M : Type 1} → statement M
 mark-spec =
-    tie.close (tie.spec returns returns-2 (λ c. search needs) returns-3 (λ c. search needs)
-    (λ c. search needs) returns-4 returns-5)
+    tie.close (tie.spec returns returns-2 (search needs) returns-3 (search needs)
+    (search needs) returns-4 returns-5)

@@ -24,5 +24,5 @@ returns-4 c = rw (c .before .before .l .given .1) (simp (ne-eqb _ _ (c .if1 .lef
 
 pub mark-literal-spec : {M : Type 1} → statement M
 mark-literal-spec =
-    tie.close (tie.spec (λ c. search needs) (λ c. search needs) (λ c. search needs)
-    (λ c. search needs) (λ c κs. search needs) returns returns-2 returns-3 returns-4)
+    tie.close (tie.spec (search needs) (search needs) (search needs)
+    (search needs) (search needs) returns returns-2 returns-3 returns-4)

@@ -9,5 +9,5 @@ returns c = rw (c .told .ensures, c .before .shut-after .ensures, c .before .bef
 
 pub at-end-spec : {M : Type 1} → statement M
 at-end-spec =
-    tie.close (tie.spec (λ c κs. search needs) (λ c κs. search needs) (λ c κs. search needs)
-    (λ c κs. search needs) (λ c κs. search needs) (λ c κs. search needs) returns)
+    tie.close (tie.spec (search needs) (λ c. search needs) (search needs)
+    (search needs) (search needs) (search needs) returns)

@@ -12,5 +12,5 @@ returns-4 c = rw (c .before .enum-told3 .given .1) (simp (ne-eqb _ _ (c .if1 .le
 
 pub count-after-spec : {M : Type 1} → statement M
 count-after-spec =
-    tie.close (tie.spec (λ c. search needs) (λ c. search needs) (λ c. search needs)
-    (λ c. search needs) (λ c. search needs) (λ c. search needs) returns-3 returns-4)
+    tie.close (tie.spec (search needs) (search needs) (search needs)
+    (search needs) (λ c. search needs) (λ c. search needs) returns-3 returns-4)

@@ -18,5 +18,5 @@ returns-5 c = rw (c .before .enum-told3 .given .1) (simp (ne-eqb _ _ (c .if2 .le
 
 pub shut-after-spec : {M : Type 1} → statement M
 shut-after-spec =
-    tie.close (tie.spec (λ c. search needs) (λ c. search needs) (λ c. search needs)
+    tie.close (tie.spec (search needs) (search needs) (search needs)
     (λ c. search needs) returns-2 returns-3 returns-4 returns-5)

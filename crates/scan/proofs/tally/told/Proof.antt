@@ -31,5 +31,5 @@ returns-6 c = let n = c .match .rest in simp (ne-eqb _ _ (c .before .if1 .left),
 
 pub told-spec : {M : Type 1} → statement M
 told-spec =
-    tie.close (tie.spec returns (λ c κs. search needs) (λ c κs. search needs) returns-2 returns-3
+    tie.close (tie.spec returns (search needs) (search needs) returns-2 returns-3
     returns-4 returns-5 returns-6)
