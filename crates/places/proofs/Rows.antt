@@ -1,7 +1,7 @@
 -- Where the rows stand in the list of all places: what is before a row, the row, and what is behind it. Assumes nothing.
 use mathlib.Core.Path.{_≡_, refl, sym, ap, _∙_}
 use mathlib.Core.Logic.{⊎-elim}
-use mathlib.Core.Bool.{Bool, true, false, _&&_}
+use mathlib.Core.Bool.{Bool, true, false, _&&_, not}
 use mathlib.Core.List.{List, [], _∷_, _++_, append-assoc, append-nil}
 use Prim.Native.Nat.{ℕ, zero, suc, _+_, _-_, _*_, _^_, _≤_, _<_}
 use native.Mathlib.Omega.{arith}
@@ -10,7 +10,7 @@ use native.Mathlib.Nat.{eq-or-lt-of-le}
 use native.Mathlib.Numerals.{add-one}
 use lib.Dec.{leb}
 use lib.ListN.{length, length-append}
-use borrow.Author.Tests.{lt-ltb, le-ltb}
+use borrow.Author.Tests.{lt-ltb, le-ltb, le-leb, lt-leb}
 use Rattle.channel.specs.Limits.{mostTracks, mostConnections, mostCodes}
 use Rattle.channel.specs.Label.{code}
 use Rattle.channel.specs.Valid.{Each}
@@ -21,7 +21,7 @@ use Rattle.places.specs.declared.Place.{Place}
 use Rattle.places.specs.declared.Place.the-variants.{One, Two}
 use Rattle.places.specs.declared.Row.{Row}
 use Rattle.places.specs.Places.{forbidden, placeAt, rowTo, rowOf, rowPlaces, stagePlaces, placesOf, placesBefore}
-use Rattle.places.specs.Table.{shut, due, tableGrid, forbiddenIn, tableRow, manyClauses}
+use Rattle.places.specs.Table.{shut, cross, due, tableGrid, forbiddenIn, tableRow, manyClauses}
 use Rattle.places.specs.Rows.{OnWalk}
 use Rattle.places.proofs.Sizes.{few-codes}
 
@@ -57,11 +57,27 @@ module _ (i c : ℕ) where
   unfolding placeAt
   place-two h s e = ap (λ k. placeAt k i c) (sym e)
 
-pub row-reach : (runs : List ℕ) (t : ℕ) (row : Row) (n : ℕ) → (row .stage ≡ 0 → ⊥) → t ≤ n → tableRow runs t row t ≡ tableRow runs t row n
-unfolding rowTo only
-row-reach runs t row n z l =
-    let s = row .stage in let i = row .i in let e : t + (n - t) ≡ n = omega arith in
-    sym (join-cut t (n - t) (λ c. only (forbiddenIn runs t row c) (placeAt s i c)) (λ k. ap (λ v. only v (placeAt s i (t + k))) (forbidden-high t (shut runs) (due runs) i (t + k) s z (omega arith)))) ∙ ap (tableRow runs t row) e
+-- how far a row goes: from some code on none is forbidden, as behind stage 0 from t on; none at all where the connection is not behind the stage's
+module _ (runs : List ℕ) (t : ℕ) (row : Row) where
+  row-cut : (r n : ℕ) → r ≤ n → ((c : ℕ) → r ≤ c → forbiddenIn runs t row c ≡ false) → tableRow runs t row r ≡ tableRow runs t row n
+  unfolding rowTo only
+  row-cut r n l h =
+      let x = placeAt (row .stage) (row .i) in let e : r + (n - r) ≡ n = omega arith in
+      sym (join-cut r (n - r) (λ c. only (forbiddenIn runs t row c) (x c)) (λ k. ap (λ v. only v (x (r + k))) (h (r + k) (omega arith)))) ∙ ap (tableRow runs t row) e
+
+  pub row-reach : (n : ℕ) → (row .stage ≡ 0 → ⊥) → t ≤ n → tableRow runs t row t ≡ tableRow runs t row n
+  row-reach n z l = row-cut t n l (λ c. forbidden-high t (shut runs) (due runs) (row .i) c (row .stage) z)
+
+  not-behind : (h c : ℕ) → row .i ≤ h → due runs h (row .i) c ≡ false
+  unfolding due
+  not-behind h c l = ap (λ v. v && (cross runs h (row .i) c && (not (shut runs h c) && not (shut runs (row .i) c)))) (le-ltb h (row .i) l)
+
+  pub row-empty : (n : ℕ) → row .i + 2 ≤ row .stage → tableRow runs t row 0 ≡ tableRow runs t row n
+  row-empty n l = row-cut 0 n (omega arith) (λ c k. go c (decLt c t))
+    where
+      go : (c : ℕ) → Dec (c < t) → forbiddenIn runs t row c ≡ false
+      go c (yes u) = let h = row .stage - 2 in forbidden-2 t (shut runs) (due runs) (row .i) c h (row .stage) (omega arith) u ∙ not-behind h c (omega arith)
+      go c (no u) = forbidden-high t (shut runs) (due runs) (row .i) c (row .stage) (λ e. omega arith) (omega arith)
 
 module _ (g : Grid) where
   abbrev m : ℕ
@@ -166,6 +182,18 @@ module _ (runs : List ℕ) (t : ℕ) (row : Row) where
       ∙ length-join (λ x. only (forbiddenIn runs t row x) (placeAt (row .stage) (row .i) x)) c
       ∙ ap (λ v. length (tableRow runs t row c) + length (only v (placeAt (row .stage) (row .i) c))) e
       ∙ ap (λ n. length (tableRow runs t row c) + n) (only-length b (placeAt (row .stage) (row .i) c))
+
+  -- stage 0 has the codes from t on
+  pub count-beyond : row .stage ≡ 0 → (n : ℕ) → length (tableRow runs t row n) ≡ n - t
+  count-beyond e zero = count-none ∙ omega arith
+  count-beyond e (suc n) = ap (λ k. length (tableRow runs t row k)) (sym (add-one n)) ∙ go (count-beyond e n) (decLt n t)
+    where
+      next : (b : Bool) → leb t n ≡ b → length (tableRow runs t row (n + 1)) ≡ length (tableRow runs t row n) + bitOf b
+      next b h = count-next n b (forbidden-0 t (shut runs) (due runs) (row .i) n (row .stage) e ∙ h)
+
+      go : length (tableRow runs t row n) ≡ n - t → Dec (n < t) → length (tableRow runs t row (n + 1)) ≡ suc n - t
+      go h (yes l) = omega (arith, next false (lt-leb t n l))
+      go h (no l) = omega (arith, next true (le-leb t n (omega arith)))
 
   -- what lies behind a whole row is not in it
   pub row-inside : (c k n : ℕ) → c ≤ 2 ^ bitsFor t → length (tableRow runs t row c) + k ≡ n → n < length (tableRow runs t row (2 ^ bitsFor t)) → c < 2 ^ bitsFor t

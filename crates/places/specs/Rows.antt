@@ -19,10 +19,12 @@ pub record Limited (t : ℕ) (row : Row) : Type 0 where
   pub stage : row .stage < mostConnections + 2
   pub inside : row .i < mostConnections
 
--- the codes of a row below n are those below r
+-- the codes of a row below n are those of the tracks below r, or in stage 0 those from r on
 pub record Reach (t : ℕ) (row : Row) (n r : ℕ) : Type 0 where
   pub few : r ≤ n
-  pub same : (runs : List ℕ) → tableRow runs t row r ≡ tableRow runs t row n
+  pub tracks : r ≤ t
+  pub beyond : row .stage ≡ 0 → r + (n - t) ≡ n
+  pub same : (row .stage ≡ 0 → ⊥) → (runs : List ℕ) → tableRow runs t row r ≡ tableRow runs t row n
 
 -- a row of m connections, or the end of the walk: behind the last row of the last stage, and at once if there is no connection
 pub record OnWalk (m : ℕ) (row : Row) : Type 0 where

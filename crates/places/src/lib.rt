@@ -1,7 +1,7 @@
 // The places of a job's clauses, walked row by row in the order of document 01, "Clause lines": the clause with a number, and how many there are.
 // A row is a stage and a connection; its places are the codes that are forbidden there. Whoever goes over the clauses goes from row to row by `next_row`.
 ghost use mathlib.Core.Path.{_≡_};
-ghost use Prim.Native.Nat.{_+_, _-_, _*_, _^_, _≤_, _<_};
+ghost use Prim.Native.Nat.{ℕ, _+_, _-_, _*_, _^_, _≤_, _<_};
 ghost use lib.ListN.{length};
 ghost use Rattle.channel.specs.Limits.{mostTracks, mostConnections};
 ghost use Rattle.clauses.specs.Clauses.{bitsFor};
@@ -75,6 +75,17 @@ fn is_due(runs: &[u8; TABLE], h: usize, i: usize, c: Code) -> bool
     (h < i) & (((a <= d) & (b <= e)) & (!(e < a) & !(d < b)))
 }
 
+// Whether a row behind stage 0 has a clause for the code c of a track.
+fn is_forbidden_on(runs: &[u8; TABLE], row: Row, c: Code) -> bool
+    requires { ⌜ (1 ≤ row .stage) × (row .stage < mostConnections + 2) × (row .i < mostConnections) × (c .0 < mostTracks) ⌝ }
+    ensures { λ r. ⌜ ((t : ℕ) → c .0 < t → r ≡ forbiddenIn (now (runs .entry)) t row (c .0)) ⌝ }
+{
+    if row.stage == 1 {
+        return is_shut(runs, row.i, c);
+    }
+    is_due(runs, row.stage - 2, row.i, c)
+}
+
 // Whether a row has a clause for the code c.
 pub fn is_forbidden(runs: &[u8; TABLE], t: u8, row: Row, c: Code) -> bool
     requires { ⌜ Limited t row ⌝ }
@@ -86,18 +97,16 @@ pub fn is_forbidden(runs: &[u8; TABLE], t: u8, row: Row, c: Code) -> bool
     if t <= c.0 {
         return false;
     }
-    if row.stage == 1 {
-        return is_shut(runs, row.i, c);
-    }
-    is_due(runs, row.stage - 2, row.i, c)
+    is_forbidden_on(runs, row, c)
 }
 
-// Where the codes of a row below n end: no row but those of stage 0 has a code from t on.
+// Where the tracks' codes of a row below n end: at once where the row's connection is not behind the stage's.
 fn reach(t: u8, row: Row, n: u8) -> u8
+    requires { ⌜ row .i < mostConnections ⌝ }
     ensures { λ r. ⌜ Reach t row n r ⌝ }
 {
-    if row.stage == 0 {
-        return n;
+    if row.i + 2 <= row.stage {
+        return 0;
     }
     if n < t {
         return n;
@@ -105,16 +114,20 @@ fn reach(t: u8, row: Row, n: u8) -> u8
     t
 }
 
-// How many places of a row have a code below n. The loop has no way out but its end, so that several codes can be tested at once.
+// How many places of a row have a code below n. Stage 0 has just the codes that no track has. The loop has no way out but its end and no test of the
+// track, so that several codes can be tested at once.
 pub fn count_to(runs: &[u8; TABLE], t: u8, row: Row, n: u8) -> usize
     requires { ⌜ Limited t row ⌝ }
     ensures { λ r. ⌜ (r ≡ length (tableRow (now (runs .entry)) t row n)) × (r ≤ n) ⌝ }
 {
     let end = reach(t, row, n);
+    if row.stage == 0 {
+        return (n - end) as usize;
+    }
     let mut k: u8 = 0;
     let mut c: u8 = 0;
     while c < end {
-        if is_forbidden(runs, t, row, Code(c)) {
+        if is_forbidden_on(runs, row, Code(c)) {
             k += 1;
         }
         c += 1;
