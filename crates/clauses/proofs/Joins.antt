@@ -9,9 +9,9 @@ use native.Mathlib.Omega.{arith}
 use lib.ListN.{length, length-append}
 use Rattle.facts.proofs.Bools.{and-left, and-right, and-both, not-both}
 pub use Rattle.facts.proofs.Bools.{one-most as bit-le}
+use Rattle.dimacs.specs.Clause.{Clause, isTrue, makes, makesAll}
 use Rattle.channel.specs.Valid.{Each}
 use Rattle.channel.proofs.Validity.{each-append}
-use Rattle.dimacs.specs.Clause.{Clause, isTrue, makes, makesAll}
 use Rattle.clauses.specs.Clauses.{joinTo, only}
 use Rattle.clauses.specs.Reading.{bitOf}
 

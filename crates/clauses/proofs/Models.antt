@@ -7,9 +7,9 @@ use Prim.Native.Nat.{ℕ, zero, suc, _+_, _*_, _-_, _^_, _≤_, _<_}
 use native.Mathlib.Omega.{arith}
 use native.Mathlib.Nat.{add-sub-cancel}
 use lib.ListN.{length, getD, length-map, List·getD-map}
+use Rattle.dimacs.specs.Clause.{valueIn}
 use Rattle.channel.specs.Channel.{Job, M, Barred, Collide}
 use Rattle.channel.specs.Routing.{Routing}
-use Rattle.dimacs.specs.Clause.{valueIn}
 use Rattle.clauses.specs.Clauses.{Grid, gridOf, labelWith, codeWith, widthOf, width, ModelOf, Model, spell, codes, spelled}
 use Rattle.clauses.specs.Reading.{codesIn, labels, labelsIn}
 use Rattle.clauses.proofs.Width.{bitsFor-is}

@@ -5,9 +5,9 @@ use mathlib.Core.List.{List, [], _∷_, _++_, map}
 use Prim.Native.Nat.{ℕ, zero, suc, _+_, _*_, _-_, _/_, _%_, _^_, _≤_}
 use lib.Dec.{ltb, leb, eqb}
 use lib.ListN.{length}
+use Rattle.dimacs.specs.Clause.{Clause, valueIn, makesAll}
 use Rattle.channel.specs.Channel.{Job, T, M, Barred, Collide}
 use Rattle.channel.specs.Label.{label, code, codeOf, labelOf}
-use Rattle.dimacs.specs.Clause.{Clause, valueIn, makesAll}
 
 -- what the clauses rest on: how many tracks and connections, which codes are barred for a connection, and on which codes two connections collide.
 -- Connections are counted from 0, tracks are given by their codes

@@ -12,16 +12,16 @@ use Rattle.channel.specs.Valid.{Valid}
 use Rattle.jobfile.specs.Rows.{mOf, fileRows}
 use Rattle.jobfile.proofs.Encode.{m-is, file-facts}
 use Rattle.jobfile.proofs.Exact.{facts-pass}
+use Rattle.route.specs.declared.Verdict.{Verdict}
+use Rattle.route.specs.declared.Verdict.the-variants as variant
+use Rattle.route.specs.Routes.{routeRows, Routes}
+use Rattle.route.proofs.Answers.{routes-one}
 use Rattle.part.specs.declared.Written.the-variants as written
 use Rattle.part.specs.Part.{jobOfPart}
 use Rattle.part.specs.P1.{p1}
 use Rattle.part.specs.Writes.{Writes}
 use Rattle.part.proofs.Table.{p1-rule}
 use Rattle.part.proofs.RoundTrip.{part-valid, written-file}
-use Rattle.route.specs.declared.Verdict.{Verdict}
-use Rattle.route.specs.declared.Verdict.the-variants as variant
-use Rattle.route.specs.Routes.{routeRows, Routes}
-use Rattle.route.proofs.Answers.{routes-one}
 use Rattle.editor.specs.declared.Connection.{Connection as Record}
 use Rattle.editor.specs.Edits.{connectionOf, toldBy, bytesOf, editorRows, editorFile, refuses, routes, Edits}
 use Rattle.editor.proofs.Records.{connections-told, file-is, rows-to, rows-from}

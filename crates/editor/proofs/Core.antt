@@ -7,6 +7,9 @@ use native.Mathlib.Omega.{arith}
 use lib.ListN.{length, take}
 use lib.Seq.{length-take-le, length-sets}
 use Rattle.channel.specs.Limits.{mostConnections}
+use Rattle.route.specs.declared.Verdict.{Verdict}
+use Rattle.route.specs.declared.Verdict.the-variants as variant
+use Rattle.route.specs.Routes.{Routes}
 use Rattle.part.specs.declared.Written.{Written}
 use Rattle.part.specs.declared.Written.the-variants as written
 use Rattle.part.specs.P1.{p1}
@@ -14,9 +17,6 @@ use Rattle.part.specs.Writes.{partRows, writerRows, fileOf, Writes}
 use Rattle.part.proofs.Table.{p1-rule}
 use Rattle.part.proofs.Sections.{file-long}
 use Rattle.part.proofs.RoundTrip.{written-file, file-room}
-use Rattle.route.specs.declared.Verdict.{Verdict}
-use Rattle.route.specs.declared.Verdict.the-variants as variant
-use Rattle.route.specs.Routes.{Routes}
 use Rattle.editor.specs.Edits.{refuses, routes}
 use Rattle.editor.specs.Gathering.{RoutesBytes, mostBytes}
 

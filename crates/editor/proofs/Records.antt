@@ -7,9 +7,9 @@ use native.Mathlib.Nat.{zero-add}
 use native.Mathlib.Numerals.{add-one, add-two}
 use native.Mathlib.Omega.{arith}
 use native.Mathlib.Decide.{decLt}
-use borrow.Author.Tests.{lt-ltb}
 use lib.ListN.{length, getD, take, set, length-replicate, length-map, List·getD-map}
 use lib.Seq.{getD-drop, ext-getD, sets, sets-eq, take-at}
+use borrow.Author.Tests.{lt-ltb}
 use Rattle.refusals.specs.Table.{Refuses, before}
 use Rattle.refusals.proofs.Laws.{refuses-left, refuses-row, behind-row}
 use Rattle.text.proofs.Writing.{sets-append}
@@ -20,11 +20,11 @@ use Rattle.jobfile.specs.File.{connectionBytes, joined, encode}
 use Rattle.jobfile.specs.Rows.{connectionRead, ConnectionKept, tab}
 use Rattle.jobfile.proofs.Decode.{tab-length, tab-at}
 use Rattle.jobfile.proofs.Encode.{connections-length}
+use Rattle.route.specs.declared.Verdict.{Verdict}
+use Rattle.route.specs.Routes.{Routes}
 use Rattle.part.specs.Part.{jobOfPart}
 use Rattle.part.specs.P1.{p1}
 use Rattle.part.specs.Writes.{countOf, connectionsOf, Takes, partRows, fileOf}
-use Rattle.route.specs.declared.Verdict.{Verdict}
-use Rattle.route.specs.Routes.{Routes}
 use Rattle.editor.specs.declared.Connection.{Connection as Record}
 use Rattle.editor.specs.Edits.{connectionOf, toldBy, bytesOf, none, editorRows, editorFile, AsFile, refuses, routes, Edits}
 use Rattle.editor.specs.Gathering.{RoutesBytes, mostBytes, noBytes, placed, gathered}

@@ -9,11 +9,11 @@ use Rattle.channel.specs.Limits.{Limits}
 use Rattle.channel.specs.Channel.{Connection}
 use Rattle.channel.specs.Valid.{ConnectionRule}
 use Rattle.jobfile.specs.File.{connectionBytes, joined, encode}
-use Rattle.part.specs.Part.{tracksIn, jobOfPart}
-use Rattle.part.specs.P1.{p1}
 use Rattle.route.specs.declared.Verdict.{Verdict}
 use Rattle.route.specs.declared.Verdict.the-variants as variant
 use Rattle.route.specs.Routes.{Routes}
+use Rattle.part.specs.Part.{tracksIn, jobOfPart}
+use Rattle.part.specs.P1.{p1}
 use Rattle.editor.specs.declared.Connection.{Connection as Record}
 
 -- the connection that a record tells; those of a list of records; their bytes

@@ -7,10 +7,10 @@ use Prim.Native.Nat.{ℕ, _+_, _*_, _<_, _≤_}
 use lib.Dec.{ltb}
 use lib.ListN.{take, set, replicate}
 use Rattle.channel.specs.Limits.{mostConnections}
-use Rattle.part.specs.P1.{p1}
-use Rattle.part.specs.Writes.{partRows, fileOf}
 use Rattle.route.specs.declared.Verdict.{Verdict}
 use Rattle.route.specs.declared.Verdict.the-variants as variant
+use Rattle.part.specs.P1.{p1}
+use Rattle.part.specs.Writes.{partRows, fileOf}
 use Rattle.editor.specs.declared.Connection.{Connection as Record}
 use Rattle.editor.specs.Edits.{AsFile}
 

@@ -4,9 +4,9 @@ use mathlib.Core.Bool.{Bool, true, false, not}
 use mathlib.Core.List.{List}
 use Prim.Native.Nat.{ℕ, _+_, _≤_, _<_}
 use native.Mathlib.Omega.{arith}
-use borrow.Author.Tests.{not-true, not-false}
 use lib.ListN.{length, getD, take, replicate}
 use lib.Seq.{length-take-le}
+use borrow.Author.Tests.{not-true, not-false}
 use Rattle.facts.proofs.Bools.{not-both}
 use Rattle.refusals.specs.Table.{Searched, all-keep, one-breaks}
 use Rattle.channel.specs.Channel.{T, M, trackAt, connectionAt}

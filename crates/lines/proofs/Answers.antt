@@ -8,15 +8,15 @@ use lib.ListN.{length, getD}
 use Rattle.refusals.specs.Table.{line, before, Refuses, Passes}
 use Rattle.refusals.proofs.Laws.{refuses-left, refuses-right, refuses-row, passes-row, behind-row, behind-or, printed-order}
 use Rattle.text.specs.Text.{Wrote}
+use Rattle.dimacs.specs.Lines.{clauseText, headerText}
 use Rattle.channel.specs.Limits.{mostTracks, mostConnections}
 use Rattle.channel.specs.Channel.{T, M}
 use Rattle.jobfile.specs.declared.Read.the-variants as read
 use Rattle.jobfile.specs.Rows.{fileRows, jobOf}
 use Rattle.jobfile.specs.Reads.{Reads}
 use Rattle.jobfile.proofs.Exact.{told, facts-pass, job-numbers, file-before}
-use Rattle.occupancy.specs.Runs.{Tabled}
-use Rattle.dimacs.specs.Lines.{clauseText, headerText}
 use Rattle.clauses.specs.Clauses.{Grid, gridOf, bitsFor, clausesOf, clauses}
+use Rattle.occupancy.specs.Runs.{Tabled}
 use Rattle.places.specs.Table.{tableGrid}
 use Rattle.places.proofs.Tabled.{tabled-clauses}
 use Rattle.lines.specs.declared.Answer.{Answer}

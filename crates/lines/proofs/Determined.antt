@@ -14,9 +14,9 @@ use Rattle.facts.proofs.Bools.{never}
 use Rattle.refusals.specs.Table.{before, row, _or_, nowhere, roomRow, Passes, Sound, line as at}
 use Rattle.refusals.proofs.Laws.{decided-one, sound-or, sound-front, sound-row, nowhere-one, behind-row, passes-or, passes-row}
 use Rattle.text.specs.Text.{Wrote}
-use Rattle.clauses.specs.Clauses.{clauseCount}
 use Rattle.jobfile.specs.Rows.{fileRows, jobOf}
 use Rattle.jobfile.proofs.Exact.{file-sound, job-is, facts-of, facts-pass}
+use Rattle.clauses.specs.Clauses.{clauseCount}
 use Rattle.lines.specs.declared.Answer.{Answer}
 use Rattle.lines.specs.declared.Answer.the-variants.{Line, Refused}
 use Rattle.lines.specs.Lined.{mostLine, lineText}

@@ -5,6 +5,7 @@ use Prim.Native.Nat.{ℕ, suc, _*_, _-_, _≤_, _<_}
 use native.Mathlib.Omega.{arith}
 use lib.ListN.{length}
 use Rattle.text.specs.Text.{Wrote}
+use Rattle.dimacs.specs.Lines.{clauseText, headerText}
 use Rattle.channel.specs.Limits.{mostTracks, mostConnections}
 use Rattle.clauses.specs.Clauses.{clausesOf}
 use Rattle.places.specs.declared.Place.{Place}
@@ -14,7 +15,6 @@ use Rattle.places.specs.Table.{tableGrid}
 use Rattle.places.proofs.Sizes.{few-codes}
 use Rattle.places.proofs.Places.{length-places, clause-at, place-within}
 use Rattle.places.proofs.Finding.{Here, Ended, here-hit, ended-short}
-use Rattle.dimacs.specs.Lines.{clauseText, headerText}
 use Rattle.lines.specs.Lined.{textOf}
 
 above-zero : (n : ℕ) → ((n ≡ 0) → ⊥) → 1 ≤ n

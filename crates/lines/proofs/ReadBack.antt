@@ -8,16 +8,16 @@ use native.Mathlib.Omega.{arith}
 use lib.ListN.{length, getD, drop}
 use Rattle.facts.proofs.Bools.{and-left, and-right}
 use Rattle.text.specs.Text.{digits}
-use Rattle.channel.specs.Limits.{mostVariables}
-use Rattle.channel.specs.Channel.{Job, T, M}
-use Rattle.channel.specs.Valid.{Valid}
-use Rattle.channel.specs.Routing.{Routing}
 use Rattle.dimacs.specs.Clause.{Clause, valueIn, makesAll, within, withinAll}
 use Rattle.dimacs.specs.Reply.{split, lines, decimal, closed}
 use Rattle.dimacs.specs.Lines.{literalsText, clauseText, clauseLine, clausesText, clauseIn, clausesIn, headerText, threeDigits}
 use Rattle.dimacs.specs.ReadBack.{headerLine, ReadsBack}
 use Rattle.dimacs.proofs.Meaning.{is-closed}
 use Rattle.dimacs.proofs.ReadBack.{reads-back, clause-reads}
+use Rattle.channel.specs.Limits.{mostVariables}
+use Rattle.channel.specs.Channel.{Job, T, M}
+use Rattle.channel.specs.Valid.{Valid}
+use Rattle.channel.specs.Routing.{Routing}
 use Rattle.clauses.specs.Clauses.{gridOf, bitsFor, joinTo, clauses, variableCount, clauseCount, spelled}
 use Rattle.clauses.proofs.Joins.{join-front}
 use Rattle.clauses.proofs.Order.{clauses-within}

@@ -8,10 +8,10 @@ use native.Mathlib.Omega.{arith}
 use lib.ListN.{length, getD, drop, length-append}
 use Rattle.text.specs.Text.{digits}
 use Rattle.text.proofs.Writing.{front, digits-length}
-use Rattle.channel.specs.Limits.{mostTracks}
-use Rattle.channel.specs.Channel.{Job, T}
 use Rattle.dimacs.specs.Clause.{Literal, Clause}
 use Rattle.dimacs.specs.Lines.{literalText, literalsText, clauseText, pcnf, headerText}
+use Rattle.channel.specs.Limits.{mostTracks}
+use Rattle.channel.specs.Channel.{Job, T}
 use Rattle.clauses.specs.Clauses.{Grid, gridOf, widthOf, clausesOf}
 use Rattle.clauses.proofs.Order.{clause-length}
 use Rattle.places.proofs.Sizes.{few-bits}

@@ -4,10 +4,10 @@ use mathlib.Core.Bool.{Bool, _&&_}
 use mathlib.Core.List.{List, [], _∷_, map}
 use Prim.Native.Nat.{ℕ, suc}
 use lib.ListN.{getD, drop}
-use Rattle.channel.specs.Channel.{Job}
 use Rattle.dimacs.specs.Clause.{Clause}
 use Rattle.dimacs.specs.Reply.{split, lines, decimal, isLiteral, literal, every, closed}
 use Rattle.dimacs.specs.Lines.{clauseIn}
+use Rattle.channel.specs.Channel.{Job}
 use Rattle.clauses.specs.Clauses.{joinTo, clauseCount}
 use Rattle.lines.specs.Lined.{lineText}
 

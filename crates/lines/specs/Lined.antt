@@ -2,9 +2,9 @@
 use mathlib.Core.List.{List, []}
 use Prim.Native.Nat.{ℕ, zero, suc, _+_, _*_}
 use lib.ListN.{length, getD}
+use Rattle.dimacs.specs.Lines.{clauseText, headerText}
 use Rattle.channel.specs.Limits.{mostBits}
 use Rattle.channel.specs.Channel.{Job}
-use Rattle.dimacs.specs.Lines.{clauseText, headerText}
 use Rattle.clauses.specs.Clauses.{Grid, gridOf, widthOf, clausesOf}
 
 -- the most bytes of a line, LF included: the literals of two codes, at most five bytes each with the blank, then `0` and LF

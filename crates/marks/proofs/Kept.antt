@@ -5,10 +5,10 @@ use mathlib.Core.List.{List, [], _∷_, _++_}
 use Prim.Native.Nat.{ℕ, zero, suc, _+_, _-_, _≤_, _<_}
 use native.Mathlib.Nat.{not-suc-le-zero}
 use native.Mathlib.Omega.{arith}
-use borrow.Author.Tests.{eqb-true, eqb-false, not-true, le-ltb, leb-true, le-leb}
 use lib.Dec.{eqb, leb}
 use lib.ListN.{length, getD, length-append, replicate, List·getD-append}
 use lib.Seq.{getD-append-seam}
+use borrow.Author.Tests.{eqb-true, eqb-false, not-true, le-ltb, leb-true, le-leb}
 use Rattle.facts.proofs.Bools.{and-left, and-right, and-both, false-by, both, iff, not-both}
 use Rattle.search.specs.Tree.{place}
 use Rattle.search.proofs.Same.{same-place}

@@ -9,10 +9,10 @@ use native.Mathlib.Nat.{add-zero, add-suc, suc-add}
 use lib.Dec.{eqb}
 use lib.ListN.{length}
 use borrow.Author.Tests.{eqb-true, eqb-false}
-use Rattle.channel.specs.declared.Code.{Code}
-use Rattle.channel.specs.Valid.{Each}
 use Rattle.dimacs.specs.Clause.{makes}
 use Rattle.dimacs.specs.Decision.{firstFalse}
+use Rattle.channel.specs.declared.Code.{Code}
+use Rattle.channel.specs.Valid.{Each}
 use Rattle.clauses.specs.Clauses.{Grid, bar, widthOf, clausesOf}
 use Rattle.clauses.proofs.Joins.{makes-append}
 use Rattle.clauses.proofs.Bits.{codeAt, unmade, spelt}

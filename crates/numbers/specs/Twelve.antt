@@ -6,9 +6,9 @@ use lib.ListN.{length, getD}
 use Rattle.channel.specs.Channel.{Job, M, occupiedBy}
 use Rattle.channel.specs.Routing.{Routing, Routable, FirstRouting}
 use Rattle.channel.specs.Verdict.{Need}
+use Rattle.channel.specs.Worked.{track1, track2, connection, jobA, jobB, jobOne}
 use Rattle.clauses.specs.Clauses.{clauseCount}
 use Rattle.lines.specs.Lined.{lineText}
-use Rattle.channel.specs.Worked.{track1, track2, connection, jobA, jobB, jobOne}
 
 -- a first routing and a need; no routing and a need
 pub record RoutesFirst (j : Job) (q : List ℕ) (n : ℕ) : Type 0 where

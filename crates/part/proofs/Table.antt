@@ -16,8 +16,8 @@ use Rattle.facts.specs.Same.{same}
 use Rattle.facts.proofs.Bools.{and-left, and-right, one-most, not-both}
 use Rattle.facts.proofs.Same.{same-true}
 use Rattle.channel.specs.Limits.{mostColumns, mostTracks, mostSegments}
-use Rattle.jobfile.specs.Rows.{tab}
 use Rattle.channel.specs.Valid.{Rising}
+use Rattle.jobfile.specs.Rows.{tab}
 use Rattle.part.specs.Part.{Table, tracksIn, startOf, segmentsOf, endsOf, tracksOf, columnsThat, isEnd, trackFollows, tracksFollow, follows, Cut, PartRule}
 use Rattle.part.specs.P1.{p1, p1Rule, p1Length}
 

@@ -5,10 +5,10 @@ use mathlib.Core.List.{List}
 use Prim.Native.Nat.{ℕ, _+_, _<_}
 use native.Mathlib.Omega.{arith}
 use Rattle.channel.specs.Channel.{Job, T, M, Barred, Collide, collide, trackAt, connectionAt}
-use Rattle.occupancy.specs.Runs.{Tabled, firstIn, lastIn}
-use Rattle.occupancy.proofs.Cells.{share-cells}
 use Rattle.clauses.specs.Clauses.{gridOf, clauses, clausesOf}
 use Rattle.clauses.proofs.Same.{same-clauses}
+use Rattle.occupancy.specs.Runs.{Tabled, firstIn, lastIn}
+use Rattle.occupancy.proofs.Cells.{share-cells}
 use Rattle.places.specs.Table.{shut, cross, tableGrid}
 
 module _ (j : Job) (runs : List ℕ) (d : Tabled j runs) where

@@ -6,9 +6,9 @@ use mathlib.Core.List.{List, [], _++_}
 use Prim.Native.Nat.{ℕ, zero, suc, _+_, _^_, _≤_, _<_}
 use lib.Dec.{leb, ltb}
 use lib.ListN.{length, getD}
+use Rattle.dimacs.specs.Clause.{Clause}
 use Rattle.channel.specs.Limits.{mostConnections, mostBits, mostCodes}
 use Rattle.channel.specs.Label.{code}
-use Rattle.dimacs.specs.Clause.{Clause}
 use Rattle.clauses.specs.Clauses.{Grid, joinTo, only, bar, widthOf, meets, bitsFor}
 use Rattle.places.specs.declared.Place.{Place}
 use Rattle.places.specs.declared.Place.the-variants.{One, Two, Past}

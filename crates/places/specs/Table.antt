@@ -4,8 +4,8 @@ use mathlib.Core.List.{List}
 use Prim.Native.Nat.{ℕ, _+_, _*_}
 use lib.Dec.{ltb}
 use Rattle.channel.specs.Limits.{mostConnections, mostCodes}
-use Rattle.occupancy.specs.Runs.{meet, firstIn, lastIn}
 use Rattle.clauses.specs.Clauses.{Grid, meets}
+use Rattle.occupancy.specs.Runs.{meet, firstIn, lastIn}
 use Rattle.places.specs.declared.Place.{Place}
 use Rattle.places.specs.declared.Row.{Row}
 use Rattle.places.specs.Places.{forbidden, rowTo}

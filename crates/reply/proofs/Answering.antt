@@ -6,21 +6,21 @@ use Prim.Native.Nat.{ℕ, _+_, _*_, _≤_, _<_}
 use native.Mathlib.Omega.{arith}
 use lib.Dec.{eqb}
 use lib.ListN.{getD, drop}
-use Rattle.channel.specs.Channel.{Job, M}
 use Rattle.dimacs.specs.Clause.{Literal, Clause}
 use Rattle.dimacs.specs.Decision.{firstFalse, place7, replyOf, checked}
 use Rattle.dimacs.specs.Model.{variables, holds}
 use Rattle.dimacs.specs.Model.{Refused as RefusedBy}
 use Rattle.dimacs.proofs.Meaning.{checked-8, checked-none}
 use Rattle.dimacs.proofs.Values.{firstFalse-agree}
-use Rattle.clauses.specs.Clauses.{bitsFor, clauses, variableCount}
-use Rattle.clauses.proofs.Order.{job-within}
+use Rattle.channel.specs.Channel.{Job, M}
 use Rattle.scan.specs.declared.Answer.{Answer as Said}
 use Rattle.scan.specs.declared.Answer.the-variants.{Refused, Claimed, Unknown, Sat}
 use Rattle.scan.specs.Marks.{Done}
 use Rattle.scan.proofs.Answers.{reads-refused, reads-claimed, reads-unknown, reads-wrong, reads-missing, reads-model, ModelMarks}
 use Rattle.jobfile.specs.Rows.{jobOf}
 use Rattle.jobfile.proofs.Exact.{job-numbers}
+use Rattle.clauses.specs.Clauses.{bitsFor, clauses, variableCount}
+use Rattle.clauses.proofs.Order.{job-within}
 use Rattle.places.specs.Places.{Sized}
 use Rattle.model.specs.Codes.{setIn}
 use Rattle.reply.specs.declared.Answer.{Answer}

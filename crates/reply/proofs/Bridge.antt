@@ -6,8 +6,6 @@ use mathlib.Core.List.{List, [], _∷_, _++_}
 use Prim.Native.Nat.{ℕ, _≤_}
 use lib.ListN.{length, drop}
 use Rattle.refusals.specs.Table.{Refuses, Passes}
-use Rattle.channel.specs.Channel.{Job, M}
-use Rattle.channel.specs.Routing.{Routing}
 use Rattle.dimacs.specs.Clause.{Literal, Clause, valueIn}
 use Rattle.dimacs.specs.Reply.{unsatisfiable, unknown}
 use Rattle.dimacs.specs.Model.{holds, Reply, Refused, Accepted, Claimed, Unknown}
@@ -15,10 +13,12 @@ use Rattle.dimacs.specs.Refusals.{Says, replyRows, Means, is-refused, is-accept
 use Rattle.dimacs.specs.Decision.{replyOf}
 use Rattle.dimacs.proofs.Meaning.{reply-means}
 use Rattle.dimacs.proofs.Decided.{means-is, accepted-model}
-use Rattle.clauses.specs.Clauses.{clauses, variableCount, spelled}
+use Rattle.channel.specs.Channel.{Job, M}
+use Rattle.channel.specs.Routing.{Routing}
 use Rattle.jobfile.specs.Rows.{fileRows, mOf, jobOf}
 use Rattle.jobfile.specs.Reads.{FileOf}
 use Rattle.jobfile.proofs.Exact.{job-is, facts-of, facts-pass}
+use Rattle.clauses.specs.Clauses.{clauses, variableCount, spelled}
 use Rattle.reply.specs.declared.Answer.{Answer}
 use Rattle.reply.specs.declared.Answer.the-variants as variant
 use Rattle.reply.specs.Replies.{replyCall, Replies}

@@ -10,16 +10,16 @@ use native.Mathlib.Decide.{decLe}
 use lib.ListN.{length, take}
 use Rattle.refusals.specs.Table.{line, Refuses, Passes}
 use Rattle.refusals.proofs.Laws.{printed-order}
-use Rattle.channel.specs.Channel.{Job, M}
 use Rattle.dimacs.specs.Clause.{Clause}
 use Rattle.dimacs.specs.Reply.{Ended}
 use Rattle.dimacs.specs.Model.{Reply, Refused, Accepted, Claimed, Unknown}
 use Rattle.dimacs.specs.Decision.{replyOf}
 use Rattle.dimacs.proofs.Replies.{RefusedBy6, cut-any, line-reply, empty-reply}
-use Rattle.clauses.specs.Clauses.{clauses, variableCount}
+use Rattle.channel.specs.Channel.{Job, M}
 use Rattle.jobfile.specs.Rows.{fileRows, mOf, jobOf}
 use Rattle.jobfile.specs.Reads.{FileOf}
 use Rattle.jobfile.proofs.Exact.{job-is, job-numbers, file-before}
+use Rattle.clauses.specs.Clauses.{clauses, variableCount}
 use Rattle.reply.specs.declared.Answer.{Answer}
 use Rattle.reply.specs.declared.Answer.the-variants as variant
 use Rattle.reply.specs.Replies.{replyCall, Replies, SixOrSame}

@@ -9,8 +9,6 @@ use lib.ListN.{length, drop}
 use Rattle.facts.proofs.Bools.{never}
 use Rattle.refusals.specs.Table.{FirstBroken, Refuses, Passes}
 use Rattle.refusals.proofs.Laws.{passes-or, passes-row, decided-one}
-use Rattle.channel.specs.Channel.{Job, M}
-use Rattle.channel.specs.Routing.{Routing}
 use Rattle.dimacs.specs.Clause.{Literal, Clause, valueIn}
 use Rattle.dimacs.specs.Reply.{Status, satisfiable, unsatisfiable, unknown, statuses, literals}
 use Rattle.dimacs.specs.Model.{holds, Reply, Refused, Accepted, Claimed, Unknown}
@@ -18,10 +16,12 @@ use Rattle.dimacs.specs.Refusals.{linesIn, WellFormed, Keeps, Says, GivesModel,
 use Rattle.dimacs.specs.Decision.{replyOf}
 use Rattle.dimacs.proofs.Meaning.{gives-one}
 use Rattle.dimacs.proofs.Decided.{means-is, accepted-model, model-accepted}
-use Rattle.clauses.specs.Clauses.{clauses, variableCount, spelled}
+use Rattle.channel.specs.Channel.{Job, M}
+use Rattle.channel.specs.Routing.{Routing}
 use Rattle.jobfile.specs.Rows.{fileRows, mOf, jobOf}
 use Rattle.jobfile.specs.Reads.{FileOf}
 use Rattle.jobfile.proofs.Exact.{job-is, job-numbers}
+use Rattle.clauses.specs.Clauses.{clauses, variableCount, spelled}
 use Rattle.reply.specs.declared.Answer.{Answer}
 use Rattle.reply.specs.declared.Answer.the-variants as variant
 use Rattle.reply.specs.Replies.{replyCall, Spells, Replies, Modelled}

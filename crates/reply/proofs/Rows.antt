@@ -11,9 +11,9 @@ use Rattle.refusals.proofs.Laws.{Behind, behind-row, behind-or, refuses-left, r
 use Rattle.dimacs.specs.Clause.{Clause}
 use Rattle.dimacs.specs.Refusals.{replyRows}
 use Rattle.dimacs.proofs.Decided.{reply-sound}
-use Rattle.clauses.specs.Clauses.{clauses, variableCount}
 use Rattle.jobfile.specs.Rows.{fileRows, mOf, jobOf}
 use Rattle.jobfile.proofs.Exact.{file-sound, file-before}
+use Rattle.clauses.specs.Clauses.{clauses, variableCount}
 use Rattle.reply.specs.Replies.{replyCall}
 
 -- the text's rows stand behind row 9

@@ -8,12 +8,12 @@ use native.Mathlib.Omega.{arith}
 use native.Mathlib.Nat.{suc-mul, mul-le-mul, le-refl}
 use lib.ListN.{length, getD, take, drop, length-map, take-append-drop}
 use lib.Seq.{ext-getD, getD-take, length-take-le}
-use Rattle.channel.specs.declared.Code.{Code}
-use Rattle.channel.specs.Channel.{Job, M}
-use Rattle.channel.specs.Routing.{Routing}
 use Rattle.dimacs.specs.Clause.{valueIn, makesAll}
 use Rattle.dimacs.specs.Decision.{assigned}
 use Rattle.dimacs.proofs.Values.{assigned-length, assigned-value, makesAll-agree}
+use Rattle.channel.specs.declared.Code.{Code}
+use Rattle.channel.specs.Channel.{Job, M}
+use Rattle.channel.specs.Routing.{Routing}
 use Rattle.clauses.specs.Clauses.{clauses, variableCount, width, codes, labelWith, codeWith, spelled, Model}
 use Rattle.clauses.specs.Reading.{labels, codesIn, labelsIn}
 use Rattle.clauses.proofs.Bits.{codeAt}

@@ -4,14 +4,14 @@ use mathlib.Core.List.{List}
 use Prim.Native.Nat.{ℕ, _+_, _*_, _^_, _≤_, _<_}
 use native.Mathlib.Omega.{arith}
 use lib.ListN.{length}
+use Rattle.dimacs.specs.Decision.{firstFalse}
 use Rattle.channel.specs.declared.Code.{Code}
 use Rattle.channel.specs.Limits.{mostCodes}
 use Rattle.channel.specs.Channel.{Job, T, M}
-use Rattle.dimacs.specs.Decision.{firstFalse}
-use Rattle.clauses.specs.Clauses.{bitsFor, clausesOf, clauses}
-use Rattle.clauses.proofs.Bits.{codeAt}
 use Rattle.jobfile.specs.Rows.{jobOf}
 use Rattle.jobfile.proofs.Exact.{job-numbers}
+use Rattle.clauses.specs.Clauses.{bitsFor, clausesOf, clauses}
+use Rattle.clauses.proofs.Bits.{codeAt}
 use Rattle.occupancy.specs.Runs.{Tabled}
 use Rattle.places.specs.Places.{placesOf, Sized}
 use Rattle.places.specs.Table.{tableGrid}

@@ -6,15 +6,15 @@ use mathlib.Core.Logic.{_⊎_}
 use Prim.Native.Nat.{ℕ, _≤_}
 use lib.ListN.{length, drop}
 use Rattle.refusals.specs.Table.{Rows, _or_, roomRow, Refuses, Passes}
-use Rattle.channel.specs.Channel.{Job, M}
-use Rattle.channel.specs.Routing.{Routing}
 use Rattle.dimacs.specs.Clause.{Literal, valueIn}
 use Rattle.dimacs.specs.Reply.{Status, unsatisfiable, unknown}
 use Rattle.dimacs.specs.Model.{holds}
 use Rattle.dimacs.specs.Refusals.{Says, GivesModel, IsModel, replyRows}
-use Rattle.clauses.specs.Clauses.{clauses, variableCount, spelled}
+use Rattle.channel.specs.Channel.{Job, M}
+use Rattle.channel.specs.Routing.{Routing}
 use Rattle.jobfile.specs.Rows.{fileRows, mOf, jobOf}
 use Rattle.jobfile.specs.Reads.{FileOf}
+use Rattle.clauses.specs.Clauses.{clauses, variableCount, spelled}
 use Rattle.reply.specs.declared.Answer.{Answer}
 use Rattle.reply.specs.declared.Answer.the-variants as variant
 

@@ -5,16 +5,16 @@ use mathlib.Core.Bool.{Bool}
 use mathlib.Core.List.{List, _++_}
 use Prim.Native.Nat.{ℕ, _≤_, _<_}
 use lib.ListN.{length, getD, drop}
-use Rattle.channel.specs.declared.Code.{Code}
-use Rattle.channel.specs.Channel.{Job, M}
-use Rattle.channel.specs.Label.{code, labelOf}
 use Rattle.dimacs.specs.Clause.{Literal}
 use Rattle.dimacs.specs.Decision.{assigned, firstFalse, replyOf}
 use Rattle.dimacs.specs.Model.{holds, Refused, Accepted, Claimed, Unknown}
-use Rattle.clauses.specs.Clauses.{clauses, variableCount}
-use Rattle.clauses.specs.Reading.{labelsIn}
+use Rattle.channel.specs.declared.Code.{Code}
+use Rattle.channel.specs.Channel.{Job, M}
+use Rattle.channel.specs.Label.{code, labelOf}
 use Rattle.jobfile.specs.Rows.{tOf, mOf}
 use Rattle.jobfile.specs.Facts.{Facts}
+use Rattle.clauses.specs.Clauses.{clauses, variableCount}
+use Rattle.clauses.specs.Reading.{labelsIn}
 use Rattle.reply.specs.declared.Answer.{Answer}
 use Rattle.reply.specs.declared.Answer.the-variants as variant
 

@@ -7,11 +7,11 @@ use native.Mathlib.Omega.{arith}
 use native.Mathlib.Decide.{decLt}
 use lib.ListN.{length, take, drop, length-append}
 use lib.Seq.{take-at}
-use Rattle.text.specs.Text.{Wrote}
-use Rattle.text.proofs.Writing.{then}
+use Rattle.search.specs.Budget.{first, none, undecided}
 use Rattle.refusals.specs.Table.{Refuses, before, line}
 use Rattle.refusals.proofs.Laws.{decided-one}
-use Rattle.search.specs.Budget.{first, none, undecided}
+use Rattle.text.specs.Text.{Wrote}
+use Rattle.text.proofs.Writing.{then}
 use Rattle.channel.specs.Limits.{mostConnections}
 use Rattle.channel.specs.Channel.{Job, M}
 use Rattle.channel.specs.Verdict.{Decides}
@@ -20,9 +20,9 @@ use Rattle.jobfile.specs.Rows.{fileRows, mOf, jobOf}
 use Rattle.jobfile.specs.Reads.{FileOf}
 use Rattle.jobfile.specs.Facts.{Facts}
 use Rattle.jobfile.proofs.Exact.{job-is, facts-of, facts-pass, job-numbers, file-sound}
-use Rattle.rows.specs.Rows.{rowsText}
 use Rattle.route.specs.declared.Verdict.the-variants.{Routed, Unroutable, Undecided, Refused}
 use Rattle.route.specs.Routes.{routeRows, Routes}
+use Rattle.rows.specs.Rows.{rowsText}
 use Rattle.report.specs.Report.{programBudget, mostInput, routedWord, unroutableWord, undecidedWord, verdictText, refusedText, verdictLines, refusedStatus, statusOf, Prints, too-long, refused, decided, Printed}
 
 -- the labels begin with the first routing of the job that the file is of

@@ -3,10 +3,10 @@ use mathlib.Core.Path.{_≡_, refl, sym, ap, subst}
 use mathlib.Core.List.{List, [], _∷_, _++_}
 use Prim.Native.Nat.{ℕ}
 use native.Mathlib.Omega.{arith}
-use Rattle.text.specs.Text.{digits}
 use Rattle.search.specs.Tree.{Settled}
 use Rattle.search.specs.Budget.{first, none}
 use Rattle.search.proofs.Settling.{settled}
+use Rattle.text.specs.Text.{digits}
 use Rattle.channel.specs.Worked.{jobA, jobB}
 use Rattle.channel.specs.Routing.{routings}
 use Rattle.channel.proofs.Budget.{to-decides}

@@ -2,9 +2,9 @@
 use mathlib.Core.List.{List, [], _∷_, _++_}
 use Prim.Native.Nat.{ℕ, _≤_, _<_}
 use lib.ListN.{length}
-use Rattle.text.specs.Text.{Wrote, digits}
-use Rattle.refusals.specs.Table.{Refuses}
 use Rattle.search.specs.Budget.{Outcome, first, none, undecided}
+use Rattle.refusals.specs.Table.{Refuses}
+use Rattle.text.specs.Text.{Wrote, digits}
 use Rattle.channel.specs.Channel.{Job, M}
 use Rattle.channel.specs.Verdict.{Decides}
 use Rattle.jobfile.specs.Rows.{fileRows}

@@ -9,9 +9,9 @@ ghost use mathlib.Core.Path.{_≡_};
 ghost use Prim.Native.Nat.{_+_, _-_, _≤_, _<_};
 ghost use lib.ListN.{length};
 ghost use Rattle.search.specs.Tree.{place, tries};
-ghost use Rattle.marks.specs.Marking.{marking};
 ghost use Rattle.jobfile.specs.Rows.{tOf, mOf, jobOf};
 ghost use Rattle.jobfile.specs.Facts.{Facts};
+ghost use Rattle.marks.specs.Marking.{marking};
 ghost use Rattle.route.specs.Cut.{CutTo, Laid};
 ghost use Rattle.route.specs.Routes.{Judged, Routes};
 

@@ -4,9 +4,9 @@ use mathlib.Core.List.{List}
 use Prim.Native.Nat.{ℕ, _+_, _*_, _≤_, _<_}
 use native.Mathlib.Omega.{arith}
 use native.Mathlib.Numerals.{add-one}
-use borrow.Author.Tests.{ltb-false}
 use lib.ListN.{length, getD}
 use lib.Seq.{length-sets}
+use borrow.Author.Tests.{ltb-false}
 use Rattle.text.specs.Text.{Wrote}
 use Rattle.text.proofs.Writing.{then, wrote-none}
 use Rattle.channel.specs.Channel.{occupiedBy, trackAt, connectionAt}

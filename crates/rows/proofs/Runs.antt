@@ -5,10 +5,10 @@ use mathlib.Core.List.{List, [], _∷_, _++_, append-nil}
 use Prim.Native.Nat.{ℕ, zero, suc, _+_, _-_, _≤_, _<_}
 use native.Mathlib.Omega.{arith}
 use native.Mathlib.Nat.{add-zero, add-suc}
-use borrow.Author.Tests.{le-leb, lt-leb}
 use lib.Dec.{leb}
 use lib.ListN.{length, getD, length-append, List·getD-append}
 use lib.Seq.{getD-append-seam}
+use borrow.Author.Tests.{le-leb, lt-leb}
 use Rattle.channel.specs.Channel.{Track, Connection, segments, numbersTo, occupied, occupiedBy}
 use Rattle.occupancy.specs.Runs.{Run}
 

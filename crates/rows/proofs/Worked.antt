@@ -4,9 +4,9 @@ use mathlib.Core.Path.{_≡_, refl, sym, subst}
 use mathlib.Core.List.{List, [], _∷_, _++_}
 use Prim.Native.Nat.{ℕ, _≤_, _<_}
 use lib.ListN.{length, drop}
-use Rattle.text.specs.Text.{digits}
 use Rattle.search.specs.Tree.{Settled}
 use Rattle.search.proofs.Settling.{settled}
+use Rattle.text.specs.Text.{digits}
 use Rattle.channel.specs.Channel.{occupied, occupiedBy, numbersTo, leftEnd, trackAt, connectionAt}
 use Rattle.channel.specs.Worked.{jobA}
 use Rattle.channel.specs.Routing.{Routing, routings}

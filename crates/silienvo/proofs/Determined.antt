@@ -14,9 +14,9 @@ use Rattle.route.proofs.Answers.{routes-one}
 use Rattle.judge.proofs.Laws.{judges-one}
 use Rattle.rows.proofs.Laws.{lines-one}
 use Rattle.lines.proofs.Determined.{writes-one as line-writes-one}
-use Rattle.reply.proofs.Exact.{replies-one}
 use Rattle.part.specs.P1.{p1}
 use Rattle.part.proofs.Answers.{writes-one}
+use Rattle.reply.proofs.Exact.{replies-one}
 use Rattle.editor.specs.declared.Connection.{Connection as Record}
 use Rattle.editor.proofs.Answers.{edits-one}
 use Rattle.silienvo.specs.declared.SilienvoAnswer.{SilienvoAnswer}

@@ -19,13 +19,13 @@ use Rattle.rows.specs.Lines.{Lines}
 use Rattle.lines.specs.declared.Answer.{Answer as LineAnswer}
 use Rattle.lines.specs.declared.Answer.the-variants as line
 use Rattle.lines.specs.Writes.{WritesLine}
-use Rattle.reply.specs.declared.Answer.{Answer as ReplyAnswer}
-use Rattle.reply.specs.declared.Answer.the-variants as reply
-use Rattle.reply.specs.Replies.{Replies}
 use Rattle.part.specs.declared.Written.{Written}
 use Rattle.part.specs.declared.Written.the-variants as written
 use Rattle.part.specs.P1.{p1}
 use Rattle.part.specs.Writes.{Writes}
+use Rattle.reply.specs.declared.Answer.{Answer as ReplyAnswer}
+use Rattle.reply.specs.declared.Answer.the-variants as reply
+use Rattle.reply.specs.Replies.{Replies}
 use Rattle.editor.specs.declared.Connection.{Connection as Record}
 use Rattle.editor.specs.Edits.{Edits}
 use Rattle.silienvo.specs.declared.SilienvoAnswer.{SilienvoAnswer}

@@ -7,8 +7,8 @@ use Rattle.route.specs.declared.Verdict.the-variants as verdict
 use Rattle.judge.specs.declared.Judgement.the-variants as judgement
 use Rattle.rows.specs.declared.Answer.the-variants as rows
 use Rattle.lines.specs.declared.Answer.the-variants as line
-use Rattle.reply.specs.declared.Answer.the-variants as reply
 use Rattle.part.specs.declared.Written.the-variants as written
+use Rattle.reply.specs.declared.Answer.the-variants as reply
 
 -- a job's connections stand before the trailer
 abbrev pub ReadFits : ℕ → Read → Type 0

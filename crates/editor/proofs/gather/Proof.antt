@@ -1,12 +1,12 @@
 -- `editor::gather` meets its contract: a walk of its MIR, by hand, with a loop. Each turn reads one record out of the lent slice and calls `put_connection`.
 -- Assumes nothing.
 use mathlib.Core.Path.{_≡_, refl, sym, _∙_, ap, subst}
+use mathlib.Core.Bool.{Bool, true}
+use mathlib.Core.List.{List, [], _∷_}
 use Prim.Native.Nat.{ℕ, zero, suc, _+_, _*_, _<_, _≤_, _^_}
 use native.Mathlib.Nat.{add-zero, zero-add}
 use native.Mathlib.Numerals.{add-one}
 use native.Mathlib.Omega.{arith}
-use mathlib.Core.Bool.{Bool, true}
-use mathlib.Core.List.{List, [], _∷_}
 use lib.ListN.{length, getD, drop as dropL, replicate, drop-of-length-le}
 use lib.Seq.{drop-cons}
 use lib.WfN.{Nat·lt-wfRel}
@@ -19,9 +19,9 @@ use Rattle.walks.proofs.Words.{WpFn, Tables, Atoms, sem, Fun, givenOf, tables, 
 use Rattle.walks.proofs.Words.{no-more, land, assigns, assigns-last, stays, leaves-loop, returns, enter, alloc1, alloc0, params1, pass1, pass0, free1, free0, exec, loop-rule, fmOf, yes, RattleType, owns, pointee, Is, shows, uint-makes, uint-copy, uint-lawful, RefT, now, sliceTy, sliceVal, ShrSlice, Room, slice-vals, shr-slice-tells, shr-slice-copy, Array}
 use Rattle.walks.proofs.Words.{arrayVal, array-repeat, array-lawful, place-is, elem-out, elem-back, looks-slice, shuts-slice, plain, u8, usize, nothing, owned, peeks, Contract, Triple, calls-at, onEntry, tripleOf, cited, lasts, says, Stays, stay-none-slice, walkOf, ends-at, goes-none-slice}
 use Rattle.walks.proofs.Walk.{told, stands}
+use Rattle.editor.specs.declared.Connection.{Connection}
 use Rattle.editor.specs.Edits.{none}
 use Rattle.editor.specs.Gathering.{mostBytes, noBytes, placed, gathered}
-use Rattle.editor.specs.declared.Connection.{Connection}
 use Rattle.editor.proofs.Connection as S
 use Rattle.editor.proofs.Connection.Laws as S′
 use Rattle.editor.proofs.put_connection as put

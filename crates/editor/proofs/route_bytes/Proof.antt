@@ -2,12 +2,12 @@
 use mathlib.Core.Path.{refl, sym}
 use Prim.Native.Nat.{ℕ, _+_}
 use native.Mathlib.Omega.{arith}
-use denote.Ref.{now}
 use lib.ListN.{length-replicate}
 use lib.Seq.{length-take-le}
+use denote.Ref.{now}
+use borrow.Author.Needs.{needs}
 use Rattle.editor.specs.Gathering.{mostBytes}
 use Rattle.editor.proofs.Core.{size-within, core-routes, core-refuses}
-use borrow.Author.Needs.{needs}
 use Rattle.editor.proofs.route_bytes.Statement.{statement}
 use Rattle.editor.proofs.route_bytes.Tie as tie
 

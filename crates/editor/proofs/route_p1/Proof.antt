@@ -1,8 +1,8 @@
 -- `editor::route_p1` meets its contract: a walk of its MIR, by hand. The lent records are gathered, and the core is called on the bytes; the labels' borrow is given to it.
 -- What the core answers on the gathered bytes is the entry's answer (proofs/Records.antt). Assumes nothing.
 use mathlib.Core.Path.{_≡_, refl}
-use Prim.Native.Nat.{ℕ, _<_, _^_}
 use mathlib.Core.List.{List, [], _∷_}
+use Prim.Native.Nat.{ℕ, _<_, _^_}
 use lib.ListN.{length}
 use denote.Enum.Laws as EL
 use Rattle.walks.proofs.Words.{URA, named, w8, w32, w64, Val, vint, SProp, ent, sep, via, fst∗, emp, Lft, Share, Fml, ftrue, flft, Memory, Routine, Heap, Calls, Loops, WpFn, Atoms, sem, Fun, givenOf, tables, tablesOf, Given, ‵, raw, _⊛_, ⋆, _$_, _∵_, !, qed, by, move, keep, use1, use2, drop, split, join, fsplit, fjoin, feqL, suffices, frame, done}
@@ -12,8 +12,8 @@ use Rattle.walks.proofs.Walk.{told, told-last, stands}
 use Rattle.route.specs.declared.Verdict.{Verdict}
 use Rattle.route.proofs.Verdict as R
 use Rattle.route.proofs.Verdict.Laws as R′
-use Rattle.editor.specs.Gathering.{mostBytes, noBytes, gathered, RoutesBytes}
 use Rattle.editor.specs.declared.Connection.{Connection}
+use Rattle.editor.specs.Gathering.{mostBytes, noBytes, gathered, RoutesBytes}
 use Rattle.editor.proofs.Records.{edits-of}
 use Rattle.editor.proofs.Connection as S
 use Rattle.editor.proofs.gather as gather

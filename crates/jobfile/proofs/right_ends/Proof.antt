@@ -1,8 +1,8 @@
 -- `right_ends`: as many bytes behind the record's head as its first byte says.
-use denote.Ref.{now}
 use Prim.Native.Nat.{_+_}
 use native.Mathlib.Nat.{add-sub-cancel-left}
 use lib.ListN.{getD}
+use denote.Ref.{now}
 use borrow.Author.Needs.{needs}
 use Rattle.jobfile.proofs.right_ends.Statement.{statement}
 use Rattle.jobfile.proofs.right_ends.Tie as tie

@@ -1,10 +1,10 @@
 -- The walk keeps the marks of the labels passed, a legal partial routing (`Going`): a label that fits beside them is kept, and one that does not ends it. Assumes nothing.
-use borrow.Author.Needs.{needs}
-use denote.Ref.{now}
-use native.Mathlib.Omega.{arith}
 use mathlib.Core.List.{List}
 use Prim.Native.Nat.{ℕ, _-_}
+use native.Mathlib.Omega.{arith}
 use lib.ListN.{length, getD}
+use borrow.Author.Needs.{needs}
+use denote.Ref.{now}
 use Rattle.channel.specs.Channel.{trackAt, connectionAt}
 use Rattle.jobfile.specs.Rows.{kOf, jobOf}
 use Rattle.occupancy.specs.Runs.{Cell}

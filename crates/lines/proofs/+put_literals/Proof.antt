@@ -1,17 +1,17 @@
 -- The literals of the higher bits are put down first, by a call for one bit less; then comes the lowest bit's, and a blank. The number of bits falls.
+use Prim.Native.Nat.{ℕ, _<_}
+use native.Mathlib.Omega.{arith}
 use borrow.Author.Needs.{needs}
 use denote.Ref.{now}
-use native.Mathlib.Omega.{arith}
-use Rattle.text.proofs.Writing.{then, wrote-none}
-use Rattle.lines.proofs.Words.{literals-none, literals-more}
-use Prim.Native.Nat.{ℕ, _<_}
 use borrow.Fn.Kinds.{In}
 use borrow.Fn.PlainCycle.{Measures, is, falls, and}
+use Rattle.text.proofs.Writing.{then, wrote-none}
+use Rattle.text.proofs.put.Reads as put-reads
+use Rattle.lines.proofs.Words.{literals-none, literals-more}
 use Rattle.lines.proofs.put_literals.Reads as put-literals
 use Rattle.lines.proofs.put_literals.Kinds as put-literals-kinds
 use Rattle.lines.proofs.+put_literals.Lts-put_literals as put-literals-lts
 use Rattle.lines.proofs.put_literal.Reads as put-literal-reads
-use Rattle.text.proofs.put.Reads as put-reads
 use Rattle.lines.proofs.+put_literals.{statement}
 use Rattle.lines.proofs.+put_literals.Tie.{close}
 

@@ -2,10 +2,10 @@
 use mathlib.Core.Path.{refl, subst}
 use native.Mathlib.Omega.{arith}
 use denote.Ref.{now}
+use borrow.Author.Needs.{needs}
 use Rattle.jobfile.specs.Reads.{Reads}
 use Rattle.jobfile.proofs.Exact.{told}
 use Rattle.lines.proofs.Answers.{refused-file, job-limits, refused-room, answered}
-use borrow.Author.Needs.{needs}
 use Rattle.lines.proofs.line.Statement.{statement}
 use Rattle.lines.proofs.line.Tie as tie
 

@@ -2,9 +2,9 @@
 use mathlib.Core.Path.{refl}
 use native.Mathlib.Omega.{arith}
 use denote.Ref.{now}
+use borrow.Author.Needs.{needs}
 use Rattle.clauses.proofs.Width.{variables-few}
 use Rattle.lines.proofs.Lines.{zeroth, found-within, found, above}
-use borrow.Author.Needs.{needs}
 use Rattle.lines.proofs.line_of.Statement.{statement}
 use Rattle.lines.proofs.line_of.Tie as tie
 

@@ -1,8 +1,8 @@
 -- A bar is the forbidden code at the connection's variables, which are within the limit of V.
 use native.Mathlib.Omega.{arith}
+use borrow.Author.Needs.{needs}
 use Rattle.clauses.specs.Clauses.{bar}
 use Rattle.lines.proofs.Words.{last-variable}
-use borrow.Author.Needs.{needs}
 use Rattle.lines.proofs.put_bar.Statement.{statement}
 use Rattle.lines.proofs.put_bar.Tie as tie
 

@@ -2,11 +2,11 @@
 use mathlib.Core.Path.{subst}
 use native.Mathlib.Omega.{arith}
 use denote.Ref.{now}
+use borrow.Author.Needs.{needs}
 use Rattle.text.proofs.Writing.{then}
 use Rattle.places.specs.Places.{Within}
 use Rattle.lines.proofs.Words.{wrote-one, wrote-two}
 use Rattle.lines.proofs.Lines.{past-within}
-use borrow.Author.Needs.{needs}
 use Rattle.lines.proofs.put_clause.Statement.{statement}
 use Rattle.lines.proofs.put_clause.Tie as tie
 

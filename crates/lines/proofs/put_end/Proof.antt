@@ -1,6 +1,6 @@
 -- One byte after the other.
-use Rattle.text.proofs.Writing.{then}
 use borrow.Author.Needs.{needs}
+use Rattle.text.proofs.Writing.{then}
 use Rattle.lines.proofs.put_end.Statement.{statement}
 use Rattle.lines.proofs.put_end.Tie as tie
 

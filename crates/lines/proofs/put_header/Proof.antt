@@ -1,7 +1,7 @@
 -- The parts one after the other.
-use Rattle.dimacs.specs.Lines.{headerText}
-use Rattle.text.proofs.Writing.{then}
 use borrow.Author.Needs.{needs}
+use Rattle.text.proofs.Writing.{then}
+use Rattle.dimacs.specs.Lines.{headerText}
 use Rattle.lines.proofs.put_header.Statement.{statement}
 use Rattle.lines.proofs.put_header.Tie as tie
 

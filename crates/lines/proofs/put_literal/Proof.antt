@@ -1,9 +1,9 @@
 -- A plain literal is its digits, a negated one a minus and its digits.
 use native.Mathlib.Omega.{arith}
 use borrow.Author.Tests.{not-true, not-false}
+use borrow.Author.Needs.{needs}
 use Rattle.text.proofs.Writing.{then}
 use Rattle.lines.proofs.Words.{literal-plain, literal-negated}
-use borrow.Author.Needs.{needs}
 use Rattle.lines.proofs.put_literal.Statement.{statement}
 use Rattle.lines.proofs.put_literal.Tie as tie
 

@@ -1,7 +1,7 @@
 -- `base_of`: the tracks before this one are its code, and each has the marks of the most segments.
-use native.Mathlib.Omega.{arith}
 use mathlib.Core.Path.{_≡_, ap}
 use Prim.Native.Nat.{_-_}
+use native.Mathlib.Omega.{arith}
 use borrow.Author.Needs.{needs}
 use Rattle.channel.specs.declared.Code.{Code}
 use Rattle.marks.proofs.base_of.Statement.{statement}

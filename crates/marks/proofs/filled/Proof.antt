@@ -1,12 +1,12 @@
 -- `marks::filled`: the first k marks of the run are filled. Assumes nothing.
-use native.Mathlib.Omega.{arith}
 use mathlib.Core.Path.{_≡_, refl, ap, _∙_}
 use Prim.Native.Nat.{_-_, _+_, _≤_}
-use denote.Ref.{now}
+use native.Mathlib.Omega.{arith}
 use lib.ListN.{set}
+use denote.Ref.{now}
+use borrow.Author.Needs.{needs}
 use Rattle.marks.specs.Marking.{fill}
 use Rattle.marks.proofs.Laws.{fill-next}
-use borrow.Author.Needs.{needs}
 use Rattle.marks.proofs.filled.Statement.{statement}
 use Rattle.marks.proofs.filled.Tie as tie
 

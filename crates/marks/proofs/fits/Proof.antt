@@ -1,7 +1,7 @@
 -- `fits`: the two bytes of the table tell the run, and the run whether it is free.
-use native.Mathlib.Omega.{arith}
 use mathlib.Core.Path.{_≡_, ap, _∙_}
 use Prim.Native.Nat.{ℕ, _-_}
+use native.Mathlib.Omega.{arith}
 use denote.Ref.{now}
 use Rattle.channel.specs.declared.Code.{Code}
 use Rattle.occupancy.specs.Runs.{firstIn, lastIn}

@@ -1,8 +1,8 @@
 -- `fits_run`: a run whose last segment is not before the first is walked, and its marks are all free or not.
-use native.Mathlib.Omega.{arith}
 use mathlib.Core.Path.{sym, _∙_}
 use mathlib.Core.Bool.{_&&_, not}
 use Prim.Native.Nat.{_+_, _-_}
+use native.Mathlib.Omega.{arith}
 use denote.Ref.{now}
 use borrow.Author.Tests.{lt-ltb, le-ltb}
 use borrow.Author.Needs.{needs}

@@ -1,13 +1,13 @@
 -- `marks::run_free`: the first k marks of the run are free. Assumes nothing.
-use native.Mathlib.Omega.{arith}
 use mathlib.Core.Path.{_≡_, sym, ap, _∙_}
 use mathlib.Core.Bool.{true}
 use Prim.Native.Nat.{_-_, _≤_}
+use native.Mathlib.Omega.{arith}
 use denote.Ref.{now}
 use borrow.Author.Tests.{not-true, not-false}
+use borrow.Author.Needs.{needs}
 use Rattle.marks.specs.Marking.{allFree}
 use Rattle.marks.proofs.Laws.{all-free-next, all-free-fails}
-use borrow.Author.Needs.{needs}
 use Rattle.marks.proofs.run_free.Statement.{statement}
 use Rattle.marks.proofs.run_free.Tie as tie
 

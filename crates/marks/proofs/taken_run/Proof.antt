@@ -1,7 +1,7 @@
 -- `taken_run`: the marks of the run get the connection's number.
-use native.Mathlib.Omega.{arith}
 use mathlib.Core.Path.{_∙_}
 use Prim.Native.Nat.{_+_, _-_}
+use native.Mathlib.Omega.{arith}
 use denote.Ref.{now}
 use borrow.Author.Needs.{needs}
 use Rattle.marks.specs.Marking.{fill, takenRun}

@@ -4,9 +4,9 @@ use mathlib.Core.Logic.{inl}
 use mathlib.Core.Bool.{_&&_}
 use Prim.Native.Nat.{_≤_, _+_}
 use native.Mathlib.Omega.{arith}
-use borrow.Author.Needs.{needs}
 use lib.Dec.{eqb}
 use lib.ListN.{length, length-append}
+use borrow.Author.Needs.{needs}
 use Rattle.places.specs.Places.{rowPlaces, placesOf, placesBefore}
 use Rattle.places.specs.Table.{tableGrid, manyClauses}
 use Rattle.places.specs.Rows.{OnWalk, rowsLeft}

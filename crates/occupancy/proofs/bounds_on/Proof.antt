@@ -1,10 +1,10 @@
 -- `bounds_on`: the table of starts has the record of the label's track, which is fine, and the cell that is read there is the job's.
-use denote.Ref.{now}
 use mathlib.Core.Path.{_≡_, ap, _∙_}
 use mathlib.Core.List.{List}
 use Prim.Native.Nat.{ℕ, _-_, _<_}
 use native.Mathlib.Omega.{arith}
 use lib.ListN.{getD}
+use denote.Ref.{now}
 use borrow.Author.Needs.{needs}
 use Rattle.channel.specs.declared.Code.{Code}
 use Rattle.jobfile.specs.Rows.{tOf, start}

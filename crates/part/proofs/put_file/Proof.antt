@@ -1,9 +1,9 @@
 -- `part::put_file` meets its contract: the three sections, one behind the other, are the file; how long each is gives the room and the distances.
 use native.Mathlib.Omega.{arith}
 use denote.Ref.{now}
+use borrow.Author.Needs.{needs}
 use Rattle.part.specs.Part.{tableOf, Table, Part}
 use Rattle.part.proofs.Sections.{section-long, ends-few, wrote-file}
-use borrow.Author.Needs.{needs}
 use Rattle.part.proofs.put_file.Statement.{statement}
 use Rattle.part.proofs.put_file.Tie as tie
 

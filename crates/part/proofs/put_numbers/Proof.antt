@@ -1,6 +1,6 @@
 -- `part::put_numbers` meets its contract: four writes, one behind the other.
-use Rattle.text.proofs.Writing.{then}
 use borrow.Author.Needs.{needs}
+use Rattle.text.proofs.Writing.{then}
 use Rattle.part.proofs.put_numbers.Statement.{statement}
 use Rattle.part.proofs.put_numbers.Tie as tie
 

@@ -1,6 +1,6 @@
 -- `part::put_track` meets its contract: three writes, one behind the other.
-use Rattle.text.proofs.Writing.{then}
 use borrow.Author.Needs.{needs}
+use Rattle.text.proofs.Writing.{then}
 use Rattle.part.proofs.put_track.Statement.{statement}
 use Rattle.part.proofs.put_track.Tie as tie
 

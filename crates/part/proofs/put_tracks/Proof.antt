@@ -1,9 +1,9 @@
 -- `part::put_tracks` meets its contract: the invariant has the records of the tracks passed, and each turn writes one more behind them.
-use Prim.Native.Nat.{_+_, _-_, _*_, _≤_}
 use mathlib.Core.Path.{_≡_, subst}
+use Prim.Native.Nat.{_+_, _-_, _*_, _≤_}
 use native.Mathlib.Omega.{arith}
-use denote.Ref.{now}
 use lib.ListN.{length, getD}
+use denote.Ref.{now}
 use borrow.Author.Needs.{needs}
 use Rattle.text.specs.Text.{Wrote}
 use Rattle.jobfile.specs.File.{trackBytes, joined}

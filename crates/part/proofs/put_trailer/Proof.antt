@@ -1,6 +1,6 @@
 -- `part::put_trailer` meets its contract: two distances and the numbers, one behind the other.
-use Rattle.text.proofs.Writing.{then}
 use borrow.Author.Needs.{needs}
+use Rattle.text.proofs.Writing.{then}
 use Rattle.part.proofs.put_trailer.Statement.{statement}
 use Rattle.part.proofs.put_trailer.Tie as tie
 

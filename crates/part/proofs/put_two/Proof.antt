@@ -1,6 +1,6 @@
 -- `part::put_two` meets its contract: two writes, one behind the other.
-use Rattle.text.proofs.Writing.{then}
 use borrow.Author.Needs.{needs}
+use Rattle.text.proofs.Writing.{then}
 use Rattle.part.proofs.put_two.Statement.{statement}
 use Rattle.part.proofs.put_two.Tie as tie
 

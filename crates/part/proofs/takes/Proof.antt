@@ -1,9 +1,9 @@
 -- `part::takes` meets its contract: each test that fails breaks one of the facts.
+use Prim.Native.Nat.{_/_}
+use native.Mathlib.Omega.{arith}
+use borrow.Author.Needs.{needs}
 use Rattle.facts.proofs.Tells.{told-yes, told-no}
 use Rattle.channel.specs.Limits.{Limits}
-use native.Mathlib.Omega.{arith}
-use Prim.Native.Nat.{_/_}
-use borrow.Author.Needs.{needs}
 use Rattle.part.proofs.takes.Statement.{statement}
 use Rattle.part.proofs.takes.Tie as tie
 

@@ -1,6 +1,6 @@
 -- `part::write_p1` meets its contract: P1 is a part whose table keeps the rule.
-use Rattle.part.proofs.Table.{p1-rule}
 use borrow.Author.Needs.{needs}
+use Rattle.part.proofs.Table.{p1-rule}
 use Rattle.part.proofs.write_p1.Statement.{statement}
 use Rattle.part.proofs.write_p1.Tie as tie
 

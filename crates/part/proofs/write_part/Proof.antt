@@ -2,14 +2,14 @@
 use mathlib.Core.Path.{refl}
 use Prim.Native.Nat.{_-_}
 use native.Mathlib.Omega.{arith}
-use denote.Ref.{now}
 use lib.ListN.{length}
+use denote.Ref.{now}
+use borrow.Author.Needs.{needs}
 use Rattle.facts.proofs.Tells.{told-no, told-yes}
 use Rattle.part.specs.Part.{Part, partOf}
 use Rattle.part.specs.Writes.{Takes}
 use Rattle.part.proofs.Sections.{ends-few, file-long}
 use Rattle.part.proofs.Answers.{answer-2, answer-5, answer-9, answer-file}
-use borrow.Author.Needs.{needs}
 use Rattle.part.proofs.write_part.Statement.{statement}
 use Rattle.part.proofs.write_part.Tie as tie
 

@@ -4,8 +4,8 @@ use mathlib.Core.Logic.{⊎-elim}
 use mathlib.Core.Bool.{true, false}
 use Prim.Native.Nat.{_≤_, _-_}
 use native.Mathlib.Omega.{arith}
-use borrow.Author.Needs.{needs}
 use lib.ListN.{length}
+use borrow.Author.Needs.{needs}
 use Rattle.places.specs.Table.{tableRow}
 use Rattle.places.proofs.Rows.{count-none, count-next, count-beyond}
 use Rattle.places.proofs.count_to.Statement.{statement}

@@ -2,8 +2,8 @@
 use mathlib.Core.Path.{subst, ap}
 use Prim.Native.Nat.{_<_}
 use native.Mathlib.Omega.{arith}
-use borrow.Author.Needs.{needs}
 use lib.ListN.{length}
+use borrow.Author.Needs.{needs}
 use Rattle.places.proofs.Rows.{row-is}
 use Rattle.places.proofs.Finding.{found-in, found-past}
 use Rattle.places.proofs.find.Statement.{statement}

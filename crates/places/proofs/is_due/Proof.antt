@@ -1,7 +1,7 @@
 -- The tests are those of the definition, over the bytes of both cells.
-use borrow.Author.Needs.{needs}
 use mathlib.Core.Bool.{_&&_, not}
 use lib.Dec.{leb, ltb}
+use borrow.Author.Needs.{needs}
 use Rattle.places.specs.Table.{due}
 use Rattle.places.proofs.is_due.Statement.{statement}
 use Rattle.places.proofs.is_due.Tie as tie

@@ -1,6 +1,6 @@
 -- Both bytes of the cell, compared.
-use borrow.Author.Needs.{needs}
 use lib.Dec.{ltb}
+use borrow.Author.Needs.{needs}
 use Rattle.places.proofs.is_shut.Statement.{statement}
 use Rattle.places.proofs.is_shut.Tie as tie
 

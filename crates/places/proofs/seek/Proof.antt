@@ -3,8 +3,8 @@ use mathlib.Core.Path.{_≡_, refl, ap, _∙_}
 use mathlib.Core.Logic.{inl}
 use Prim.Native.Nat.{_+_, _-_}
 use native.Mathlib.Omega.{arith}
-use borrow.Author.Needs.{needs}
 use lib.ListN.{length, length-append}
+use borrow.Author.Needs.{needs}
 use Rattle.places.specs.Places.{rowPlaces, placesBefore}
 use Rattle.places.specs.Table.{tableGrid}
 use Rattle.places.specs.Rows.{OnWalk, rowsLeft}

@@ -2,8 +2,8 @@
 -- knows of the two is that each meets its contract. In a local of a body MIR erases the lifetime of the struct's type, so the value is shown to have the type at
 -- `erased`: what the struct owns does not say the lifetime's name. Assumes nothing.
 use mathlib.Core.Path.{_≡_, refl, subst}
-use Prim.Native.Nat.{ℕ, _<_, _≤_, _^_}
 use mathlib.Core.List.{List, [], _∷_}
+use Prim.Native.Nat.{ℕ, _<_, _≤_, _^_}
 use lib.ListN.{length, drop}
 use denote.Struct.Laws as LL
 use Rattle.walks.proofs.Words.{URA, named, erased, w64, Val, vint, SProp, ent, sep, Lft, Share, Fml, ftrue, flft, Memory, Routine, Heap, Calls, Loops, WpFn, Atoms, sem, Lfts, Fun, givenOf, tables, tablesOf, Given, ‵, raw, _⊛_, ⋆, _$_, _∵_, !, qed, by, move, drop as leave, use1, use2, split, join, fsplit, fjoin, suffices, frame, done, look, init, forget}
@@ -13,11 +13,11 @@ use Rattle.walks.proofs.Walk.{told, stands}
 use Rattle.channel.specs.Limits.{mostVariables}
 use Rattle.scan.specs.Marks.{Done}
 use Rattle.scan.specs.declared.Reading.{Reading}
+use Rattle.scan.proofs.Reading as S
+use Rattle.scan.proofs.Reading.Laws as S′
 use Rattle.reader.specs.declared.Reader.{Reader}
 use Rattle.reader.proofs.Reader as T
 use Rattle.reader.proofs.Reader.Laws as T′
-use Rattle.scan.proofs.Reading as S
-use Rattle.scan.proofs.Reading.Laws as S′
 use Rattle.reader.proofs.new as new
 use Rattle.reader.proofs.new.Symbol as new-def
 use Rattle.reader.proofs.new.Symbol.{name as #reader·new}

@@ -2,8 +2,8 @@
 -- the proof knows of `read_from` is that it meets its contract. The struct is Copy: what it owns is had twice, one copy is kept whole for the exit, and of the
 -- other what the text owns goes to the callee, beside the lifetime's token, which comes back. Assumes nothing.
 use mathlib.Core.Path.{_≡_, refl}
-use Prim.Native.Nat.{ℕ, _<_, _≤_, _^_}
 use mathlib.Core.List.{[], _∷_}
+use Prim.Native.Nat.{ℕ, _<_, _≤_, _^_}
 use lib.Dec.{T as Holds}
 use lib.ListN.{length, drop as dropped}
 use denote.Struct.Laws as LL
@@ -14,11 +14,11 @@ use Rattle.walks.proofs.Walk.{told, stands}
 use Rattle.channel.specs.Limits.{mostVariables}
 use Rattle.scan.specs.Marks.{Done}
 use Rattle.scan.specs.declared.Reading.{Reading}
+use Rattle.scan.proofs.Reading as S
+use Rattle.scan.proofs.Reading.Laws as S′
 use Rattle.reader.specs.declared.Reader.{Reader}
 use Rattle.reader.proofs.Reader as T
 use Rattle.reader.proofs.Reader.Laws as T′
-use Rattle.scan.proofs.Reading as S
-use Rattle.scan.proofs.Reading.Laws as S′
 use Rattle.reader.proofs.read_from as step
 use Rattle.reader.proofs.read_from.Symbol as step-def
 use Rattle.reader.proofs.read_from.Symbol.{name as #reader·read-from}

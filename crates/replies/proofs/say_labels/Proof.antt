@@ -1,7 +1,7 @@
 -- The lent bytes in turn; the measure is how many are left. Assumes nothing.
 use Prim.Native.Nat.{_-_, _≤_}
-use Rattle.channel.specs.Limits.{mostConnections}
 use borrow.Author.Needs.{needs}
+use Rattle.channel.specs.Limits.{mostConnections}
 use Rattle.replies.proofs.say_labels.Statement.{statement}
 use Rattle.replies.proofs.say_labels.Tie as tie
 

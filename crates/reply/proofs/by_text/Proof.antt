@@ -3,12 +3,12 @@ use mathlib.Core.Path.{sym, subst, refl}
 use Prim.Native.Nat.{_*_}
 use native.Mathlib.Omega.{arith}
 use lib.ListN.{length}
-use Rattle.clauses.proofs.Width.{variables-few}
+use borrow.Author.Needs.{needs}
 use Rattle.jobfile.specs.Rows.{jobOf}
+use Rattle.clauses.proofs.Width.{variables-few}
 use Rattle.reply.specs.Steps.{Answered}
 use Rattle.reply.proofs.Weighing.{sized-as}
 use Rattle.reply.proofs.Answering.{answered-6, answered-claimed, answered-unknown, answered-wrong, answered-missing, answered-weighed}
-use borrow.Author.Needs.{needs}
 use Rattle.reply.proofs.by_text.Statement.{statement}
 use Rattle.reply.proofs.by_text.Tie as tie
 

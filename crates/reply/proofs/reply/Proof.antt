@@ -1,8 +1,8 @@
 -- The file is read first; a job's file and a buffer with room leave the answer to the text.
 use mathlib.Core.Path.{sym, subst}
+use borrow.Author.Needs.{needs}
 use Rattle.reply.specs.Replies.{Replies}
 use Rattle.reply.proofs.Entry.{out-file, out-room, call-is, out-text}
-use borrow.Author.Needs.{needs}
 use Rattle.reply.proofs.reply.Statement.{statement}
 use Rattle.reply.proofs.reply.Tie as tie
 

@@ -2,11 +2,11 @@
 use mathlib.Core.Path.{sym, subst}
 use native.Mathlib.Omega.{arith}
 use lib.ListN.{length}
+use borrow.Author.Needs.{needs}
 use Rattle.jobfile.specs.Rows.{jobOf}
 use Rattle.model.specs.Codes.{setIn}
 use Rattle.reply.specs.Steps.{Weighs}
 use Rattle.reply.proofs.Weighing.{sized-as, codes-below, codes-few, weighs-false, weighs-true}
-use borrow.Author.Needs.{needs}
 use Rattle.reply.proofs.weigh.Statement.{statement}
 use Rattle.reply.proofs.weigh.Tie as tie
 

@@ -1,7 +1,7 @@
 -- Five texts, one after the other. Assumes nothing.
+use borrow.Author.Needs.{needs}
 use Rattle.text.proofs.Writing.{then}
 use Rattle.report.specs.Report.{refusedText}
-use borrow.Author.Needs.{needs}
 use Rattle.report.proofs.put_refusal.Statement.{statement}
 use Rattle.report.proofs.put_refusal.Tie as tie
 

@@ -1,7 +1,7 @@
 -- Three texts, one after the other. Assumes nothing.
+use borrow.Author.Needs.{needs}
 use Rattle.text.proofs.Writing.{then}
 use Rattle.report.specs.Report.{verdictText}
-use borrow.Author.Needs.{needs}
 use Rattle.report.proofs.put_verdict.Statement.{statement}
 use Rattle.report.proofs.put_verdict.Tie as tie
 

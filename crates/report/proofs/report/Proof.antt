@@ -1,11 +1,12 @@
 -- Each way out writes the text that its answer prints: too long, refused, or the verdict's lines. Assumes nothing.
-use denote.Ref.{now}
-use native.Mathlib.Omega.{arith}
 use mathlib.Core.Path.{_≡_, refl, sym, subst, _∙_}
 use mathlib.Core.List.{List}
 use Prim.Native.Nat.{ℕ, _≤_}
+use native.Mathlib.Omega.{arith}
 use lib.ListN.{length, take, replicate}
 use lib.Seq.{length-take-le}
+use denote.Ref.{now}
+use borrow.Author.Needs.{needs}
 use Rattle.channel.specs.Limits.{mostConnections}
 use Rattle.channel.specs.Routing.{Routing}
 use Rattle.jobfile.specs.Rows.{mOf, jobOf}
@@ -13,7 +14,6 @@ use Rattle.route.specs.declared.Verdict.{Verdict}
 use Rattle.route.specs.Routes.{Routes}
 use Rattle.report.specs.Report.{programBudget, mostInput}
 use Rattle.report.proofs.Prints.{Found, routed-found, refused-file, printed-long, printed-refused, printed-unroutable, printed-undecided, printed-routed}
-use borrow.Author.Needs.{needs}
 use Rattle.report.proofs.report.Statement.{statement}
 use Rattle.report.proofs.report.Tie as tie
 

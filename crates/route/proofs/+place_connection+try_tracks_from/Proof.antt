@@ -1,31 +1,31 @@
 -- The search: placing a connection tries its tracks in order, and each call answers what the budget leaves of the search tree below it.
 -- The number that falls: the connections that are left, twice, and one less inside the trying of tracks. Assumes nothing.
-use borrow.Author.Needs.{needs}
-use native.Mathlib.Omega.{arith}
 use mathlib.Core.Path.{_≡_, sym, ap, subst, _∙_}
 use mathlib.Core.Bool.{true}
 use mathlib.Core.Logic.{⊎-elim}
 use mathlib.Core.List.{List}
+use Prim.Native.Nat.{ℕ, _+_, _-_, _*_, _≤_, _<_}
+use native.Mathlib.Omega.{arith}
 use lib.ListN.{length, length-set}
+use borrow.Author.Needs.{needs}
 use denote.Ref.{now}
+use borrow.Fn.Kinds.{In}
+use borrow.Fn.PlainCycle.{Measures, is, falls, and}
 use Rattle.search.specs.Tree.{place, tries}
 use Rattle.marks.specs.Marking.{Inside, marking}
 use Rattle.marks.proofs.Laws.{fits-open}
+use Rattle.marks.proofs.fits.Reads as fits-reads
+use Rattle.marks.proofs.taken.Reads as taken-reads
 use Rattle.route.specs.declared.Step.{Step}
 use Rattle.route.specs.declared.Step.the-variants.{Dead}
 use Rattle.route.specs.Cut.{CutTo}
 use Rattle.route.proofs.Cut.{done, place-more, tries-end, tries-out, tries-passed, tries-hit, tries-missed, tries-starved, dead-keeps}
-use Prim.Native.Nat.{ℕ, _+_, _-_, _*_, _≤_, _<_}
-use borrow.Fn.Kinds.{In}
-use borrow.Fn.PlainCycle.{Measures, is, falls, and}
 use Rattle.route.proofs.place_connection.Reads as place-connection
 use Rattle.route.proofs.place_connection.Kinds as place-connection-kinds
 use Rattle.route.proofs.+place_connection+try_tracks_from.Lts-place_connection as place-connection-lts
 use Rattle.route.proofs.try_tracks_from.Reads as try-tracks-from
 use Rattle.route.proofs.try_tracks_from.Kinds as try-tracks-from-kinds
 use Rattle.route.proofs.+place_connection+try_tracks_from.Lts-try_tracks_from as try-tracks-from-lts
-use Rattle.marks.proofs.fits.Reads as fits-reads
-use Rattle.marks.proofs.taken.Reads as taken-reads
 use Rattle.route.proofs.+place_connection+try_tracks_from.{statement}
 use Rattle.route.proofs.+place_connection+try_tracks_from.Tie.{close}
 

@@ -1,11 +1,12 @@
 -- `route::decide`: the search by marks is the search through the legal partial routings, and what the budget leaves of it is the verdict. Assumes nothing.
-use native.Mathlib.Nat.{sub-zero}
-use native.Mathlib.Omega.{arith}
 use mathlib.Core.Path.{_≡_, subst, _∙_}
 use mathlib.Core.List.{[]}
 use Prim.Native.Nat.{_-_, _≤_}
+use native.Mathlib.Nat.{sub-zero}
+use native.Mathlib.Omega.{arith}
 use lib.ListN.{replicate}
 use denote.Ref.{now}
+use borrow.Author.Needs.{needs}
 use Rattle.search.specs.Tree.{Res, place}
 use Rattle.channel.specs.Channel.{T, M}
 use Rattle.channel.specs.Routing.{routings}
@@ -18,7 +19,6 @@ use Rattle.route.specs.declared.Verdict.the-variants.{Routed, Unroutable
 use Rattle.route.specs.Cut.{CutTo}
 use Rattle.route.specs.Routes.{Judged}
 use Rattle.route.proofs.Verdicts.{judge-found, judge-dead, judge-spent}
-use borrow.Author.Needs.{needs}
 use Rattle.route.proofs.decide.Statement.{statement}
 use Rattle.route.proofs.decide.Tie as tie
 

@@ -1,11 +1,11 @@
 -- `route::route`: the reader's answer and the length of the buffer tell which row holds, if any; if none does, the verdict is that of `decide`. Assumes nothing.
-use native.Mathlib.Omega.{arith}
 use mathlib.Core.Path.{refl, _∙_}
-use denote.Ref.{now}
+use native.Mathlib.Omega.{arith}
 use lib.ListN.{length}
+use denote.Ref.{now}
+use borrow.Author.Needs.{needs}
 use Rattle.jobfile.proofs.Exact.{Told, told}
 use Rattle.route.proofs.Rows.{refused-file, refused-room, judged-answers}
-use borrow.Author.Needs.{needs}
 use Rattle.route.proofs.route.Statement.{statement}
 use Rattle.route.proofs.route.Tie as tie
 

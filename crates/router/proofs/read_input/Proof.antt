@@ -1,10 +1,10 @@
 -- The bytes read so far lie in the buffer, whose length stays; each turn that goes on reads one more at least, so the rest of the buffer is the
 -- measure. Assumes nothing.
-use borrow.Author.Needs.{needs}
 use mathlib.Core.Path.{_≡_, sym}
 use Prim.Native.Nat.{_-_, _≤_}
 use lib.ListN.{length}
 use lib.Seq.{length-take-le}
+use borrow.Author.Needs.{needs}
 use Rattle.router.proofs.read_input.Statement.{statement}
 use Rattle.router.proofs.read_input.Tie as tie
 

@@ -1,9 +1,9 @@
 -- What is written is the part of the text that the report has: it fits there. No status of a report is above that of a refusal, so each is a digit.
 -- Assumes nothing.
-use borrow.Author.Needs.{needs}
-use native.Mathlib.Omega.{arith}
 use mathlib.Core.Path.{sym}
+use native.Mathlib.Omega.{arith}
 use lib.Seq.{length-take-le}
+use borrow.Author.Needs.{needs}
 use Rattle.report.proofs.Status.{status-most}
 use Rattle.router.proofs.run.Statement.{statement}
 use Rattle.router.proofs.run.Tie as tie

@@ -1,7 +1,7 @@
 -- Eight texts, one after the other. Assumes nothing.
+use borrow.Author.Needs.{needs}
 use Rattle.text.proofs.Writing.{then}
 use Rattle.rows.specs.Rows.{rowText}
-use borrow.Author.Needs.{needs}
 use Rattle.rows.proofs.put_row.Statement.{statement}
 use Rattle.rows.proofs.put_row.Tie as tie
 

@@ -1,9 +1,9 @@
 -- The cell that is read for a label, which is not barred, has the first and last occupied segment; a line more a turn (`Going`). Assumes nothing.
-use borrow.Author.Needs.{needs}
-use native.Mathlib.Omega.{arith}
-use denote.Ref.{now}
 use Prim.Native.Nat.{_-_}
+use native.Mathlib.Omega.{arith}
 use lib.ListN.{length}
+use borrow.Author.Needs.{needs}
+use denote.Ref.{now}
 use Rattle.rows.proofs.Going.{Going, going-first, going-last, going-room, going-low, going-high, going-connection, going-on}
 use Rattle.rows.proofs.put_rows.Statement.{statement}
 use Rattle.rows.proofs.put_rows.Tie as tie

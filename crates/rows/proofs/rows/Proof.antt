@@ -1,12 +1,12 @@
 -- The reader's refusals come first, then the room, then the judge's; what the judge found legal is a routing, and its lines are written.
 -- Each way out is one of the laws by-file, by-room, by-judge, by-legal. Assumes nothing.
-use borrow.Author.Needs.{needs}
-use native.Mathlib.Omega.{arith}
-use denote.Ref.{now}
 use mathlib.Core.Path.{_≡_, refl, subst, _∙_}
 use mathlib.Core.List.{List}
 use Prim.Native.Nat.{ℕ, _*_, _≤_}
+use native.Mathlib.Omega.{arith}
 use lib.ListN.{length}
+use borrow.Author.Needs.{needs}
+use denote.Ref.{now}
 use Rattle.jobfile.specs.Rows.{mOf}
 use Rattle.jobfile.specs.Reads.{Reads}
 use Rattle.jobfile.proofs.Exact.{Told, told, job-numbers}

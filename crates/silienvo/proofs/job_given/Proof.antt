@@ -1,7 +1,7 @@
 -- A job leaves room for its connections before the trailer; then each case is told by the variant that was matched.
-use borrow.Author.Needs.{needs}
-use native.Mathlib.Omega.{arith}
 use mathlib.Core.Path.{subst}
+use native.Mathlib.Omega.{arith}
+use borrow.Author.Needs.{needs}
 use Rattle.silienvo.specs.Fits.{ReadFits}
 use Rattle.silienvo.proofs.job_given.Statement.{statement}
 use Rattle.silienvo.proofs.job_given.Tie as tie

@@ -1,8 +1,8 @@
 -- `silienvo::silienvo_p1_route` meets its contract: a walk of its MIR, by hand. The lent records and the labels' borrow are given to the editor's entry, whose answer is told as numbers.
 -- Assumes nothing.
 use mathlib.Core.Path.{_≡_, refl}
-use Prim.Native.Nat.{ℕ, _<_, _^_}
 use mathlib.Core.List.{List, [], _∷_}
+use Prim.Native.Nat.{ℕ, _<_, _^_}
 use lib.ListN.{length}
 use denote.Enum.Laws as EL
 use denote.Struct.Laws as LL
@@ -20,8 +20,8 @@ use Rattle.editor.proofs.route_p1 as editor
 use Rattle.editor.proofs.route_p1.Symbol as editor-def
 use Rattle.editor.proofs.route_p1.Symbol.{name as #editor·route-p1}
 use Rattle.editor.proofs.route_p1.Met as editor-thm
-use Rattle.silienvo.specs.Exports.{verdictGiven}
 use Rattle.silienvo.specs.declared.SilienvoAnswer.{SilienvoAnswer}
+use Rattle.silienvo.specs.Exports.{verdictGiven}
 use Rattle.silienvo.proofs.SilienvoAnswer as N
 use Rattle.silienvo.proofs.SilienvoAnswer.Laws as N′
 use Rattle.silienvo.proofs.verdict_given as numbers

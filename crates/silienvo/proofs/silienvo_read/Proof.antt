@@ -1,11 +1,11 @@
 -- What the reader answered fits the file (`job-room`), the export says what the reader says, and a job's connections stand where it tells (`connections-stand`).
-use borrow.Author.Needs.{needs}
-use denote.Ref.{now}
 use mathlib.Core.Path.{_≡_}
 use mathlib.Core.List.{List}
 use Prim.Native.Nat.{ℕ}
 use native.Mathlib.Omega.{arith}
 use lib.ListN.{length}
+use borrow.Author.Needs.{needs}
+use denote.Ref.{now}
 use Rattle.jobfile.specs.declared.Read.{Read}
 use Rattle.jobfile.specs.declared.Read.the-variants as read
 use Rattle.jobfile.specs.Reads.{Reads, Stand}
