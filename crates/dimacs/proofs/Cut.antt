@@ -1,6 +1,6 @@
 -- The cut theorem: of a reply that is not refused, each beginning is refused or gives the same answer. Assumes nothing.
 use mathlib.Core.Path.{_≡_, refl, sym, ap, subst, _∙_}
-use mathlib.Core.Bool.{Bool, true, false, cond, _&&_, false≢true}
+use mathlib.Core.Bool.{Bool, true, false, cond, _&&_}
 use mathlib.Core.List.{List, [], _∷_, _++_, map}
 use mathlib.Core.Logic.{_⊎_, inl, inr}
 use Prim.Native.Nat.{ℕ, zero, suc}
@@ -10,7 +10,7 @@ use lib.ListN.{take, drop, take-append-drop}
 use borrow.Author.Tests.{eqb-true, eq-eqb}
 use Rattle.facts.specs.Same.{same}
 use Rattle.facts.proofs.Same.{same-true}
-use Rattle.facts.proofs.Bools.{both}
+use Rattle.facts.proofs.Bools.{both, not-both, never}
 use Rattle.dimacs.specs.Reply.{onto, split, kept, lines, every, Word, stop, lit, isNumber, nought, isLiteral, literal, unsigned, negative, decimal, Status, satisfiable, unsatisfiable, unknown, text, Line, bad, quiet, says, gives, statusWord, statusLine, valueLine, tagged, lineOf, statuses, literals, closed}
 use Rattle.dimacs.specs.Decision.{firstBad, Parsed, Refused6, Unsat, Unsure, Sat, settle, badFirst, judged, answerOf, accepts}
 
@@ -61,18 +61,18 @@ pub data Lits : List Word → List Word → Type 0 where
 closed-stop : (xs : List Word) → closed (stop ∷ xs) ≡ true → xs ≡ []
 unfolding closed
 closed-stop [] h = refl
-closed-stop (x ∷ xs) h = absurd (false≢true h)
+closed-stop (x ∷ xs) h = not-both h refl
 
 -- a literal that closes is `0`
 closed-one : (x : Word) → closed (x ∷ []) ≡ true → x ≡ stop
 unfolding closed
 closed-one stop h = refl
-closed-one (lit l) h = absurd (false≢true h)
+closed-one (lit l) h = not-both h refl
 
 -- two closed lists that go along are one
 closed-same : {xs ys : List Word} → Lits xs ys → closed xs ≡ true → closed ys ≡ true → xs ≡ ys
 unfolding closed
-closed-same (none ys) h k = absurd (false≢true h)
+closed-same (none ys) h k = not-both h refl
 closed-same (last-lit {x = x} {y = y} ys f) h k =
     let ex = closed-one x h in
     let ey = f ex in
@@ -125,13 +125,13 @@ starts-append (b ∷ l) u = simp (eq-eqb b b refl) (starts-append l u)
 apart : (s s′ : Status) → starts (text s) (text s′) ≡ true → s ≡ s′
 unfolding starts text
 apart satisfiable satisfiable h = refl
-apart satisfiable unsatisfiable h = absurd (false≢true h)
-apart satisfiable unknown h = absurd (false≢true h)
-apart unsatisfiable satisfiable h = absurd (false≢true h)
+apart satisfiable unsatisfiable h = not-both h refl
+apart satisfiable unknown h = not-both h refl
+apart unsatisfiable satisfiable h = not-both h refl
 apart unsatisfiable unsatisfiable h = refl
-apart unsatisfiable unknown h = absurd (false≢true h)
-apart unknown satisfiable h = absurd (false≢true h)
-apart unknown unsatisfiable h = absurd (false≢true h)
+apart unsatisfiable unknown h = not-both h refl
+apart unknown satisfiable h = not-both h refl
+apart unknown unsatisfiable h = not-both h refl
 apart unknown unknown h = refl
 
 -- none of the three words begins another
@@ -169,7 +169,7 @@ status-grows (more x (more {ys = ys} y a)) = from-bad (statusLine (x ∷ y ∷ y
 nought-grows : (u : List ℕ) → isLiteral (48 ∷ u) ≡ true → literal (48 ∷ u) ≡ stop
 unfolding isLiteral literal same unsigned isNumber
 nought-grows [] h = refl
-nought-grows (b ∷ u) h = absurd (false≢true h)
+nought-grows (b ∷ u) h = not-both h refl
 
 literal-stop : (w : List ℕ) → literal w ≡ stop → w ≡ nought
 unfolding literal
@@ -177,7 +177,7 @@ literal-stop w = go (same w nought) refl
   where
     go : (b : Bool) → same w nought ≡ b → cond b stop (lit (record { variable = decimal 0 (unsigned w); negated = negative w })) ≡ stop → w ≡ nought
     go true e h = same-true w nought e
-    go false e h = let z : _≡_ {A = ℕ} 0 1 = cc in absurd (omega arith)
+    go false e h = never cc
 
 literal-grows : (w v : List ℕ) → Begins w v → isLiteral v ≡ true → literal w ≡ stop → literal v ≡ stop
 literal-grows w v b h e =
@@ -245,34 +245,34 @@ sat-says xs = go (closed xs)
   where
     go : (b : Bool) → accepts (cond b (Sat xs) (Refused6 0)) ≡ true → b ≡ true
     go true h = refl
-    go false h = absurd (false≢true h)
+    go false h = not-both h refl
 
 unsat-says : (xs : List Word) → accepts (settle (unsatisfiable ∷ []) xs) ≡ true → xs ≡ []
 unfolding settle accepts
 unsat-says [] h = refl
-unsat-says (x ∷ xs) h = absurd (false≢true h)
+unsat-says (x ∷ xs) h = not-both h refl
 
 unsure-says : (xs : List Word) → accepts (settle (unknown ∷ []) xs) ≡ true → xs ≡ []
 unfolding settle accepts
 unsure-says [] h = refl
-unsure-says (x ∷ xs) h = absurd (false≢true h)
+unsure-says (x ∷ xs) h = not-both h refl
 
 -- the rules on `s`, `v` and `0`, of a beginning and of the whole
 settle-same : {ss ss′ : List Status} {xs ys : List Word} → First ss ss′ → Lits xs ys → accepts (settle ss xs) ≡ true → accepts (settle ss′ ys) ≡ true → settle ss xs ≡ settle ss′ ys
 unfolding settle accepts
-settle-same (nothing ys) g h k = absurd (false≢true h)
+settle-same (nothing ys) g h k = not-both h refl
 settle-same {xs = xs} {ys = ys} (and-then satisfiable (nothing [])) g h k = ap (settle (satisfiable ∷ [])) (closed-same g (sat-says xs h) (sat-says ys k))
 settle-same {xs = xs} {ys = ys} (and-then unsatisfiable (nothing [])) g h k = ap (settle (unsatisfiable ∷ [])) (unsat-says xs h ∙ sym (unsat-says ys k))
 settle-same {xs = xs} {ys = ys} (and-then unknown (nothing [])) g h k = ap (settle (unknown ∷ [])) (unsure-says xs h ∙ sym (unsure-says ys k))
-settle-same (and-then satisfiable (nothing (y ∷ ys))) g h k = absurd (false≢true k)
-settle-same (and-then unsatisfiable (nothing (y ∷ ys))) g h k = absurd (false≢true k)
-settle-same (and-then unknown (nothing (y ∷ ys))) g h k = absurd (false≢true k)
+settle-same (and-then satisfiable (nothing (y ∷ ys))) g h k = not-both k refl
+settle-same (and-then unsatisfiable (nothing (y ∷ ys))) g h k = not-both k refl
+settle-same (and-then unknown (nothing (y ∷ ys))) g h k = not-both k refl
 settle-same (and-then x (and-then y f)) g h k = refl
 
 badFirst-says : (n : ℕ) (a : Parsed) → accepts (badFirst n a) ≡ true → (n ≡ 0) × (accepts a ≡ true) × (badFirst n a ≡ a)
 unfolding badFirst accepts
 badFirst-says zero a h = (refl, h, refl)
-badFirst-says (suc n) a h = absurd (false≢true h)
+badFirst-says (suc n) a h = not-both h refl
 
 judged-same : {ks ms : List Line} → Along Grows ks ms → accepts (judged ks) ≡ true → accepts (judged ms) ≡ true → judged ks ≡ judged ms
 unfolding judged

@@ -1,13 +1,14 @@
 -- What an answer says of the text, in document 01's words: `replyOf` refuses exactly as the table's rows 6, 7 and 8 do, first row first,
 -- and Accepted, Claimed and Unknown are given where no row holds. Leans on the searches, and on what `settle` keeps. Assumes nothing.
 use mathlib.Core.Path.{_≡_, refl, sym, ap, subst, _∙_}
-use mathlib.Core.Bool.{Bool, true, false, cond, false≢true, true≢false}
+use mathlib.Core.Bool.{Bool, true, false, cond}
 use mathlib.Core.List.{List, [], _∷_, _++_, map}
 use mathlib.Core.Logic.{_⊎_, inl, inr}
 use Prim.Native.Nat.{ℕ, zero, suc, _+_, _≤_}
 use native.Mathlib.Omega.{arith}
 use lib.ListN.{length, length-map}
 use borrow.Author.Tests.{eq-eqb, ne-eqb}
+use Rattle.facts.proofs.Bools.{not-both, never}
 use Rattle.refusals.specs.Table.{FirstBroken, Searched, Refuses, Passes}
 use Rattle.refusals.proofs.Laws.{behind-row, behind-or, refuses-row, refuses-left, refuses-right, passes-row, passes-or, searched-all, searched-broken, printed-order}
 use Rattle.dimacs.specs.Clause.{Literal, Clause}
@@ -20,9 +21,9 @@ use Rattle.dimacs.proofs.Searches.{bad-searched, false-searched, wrong-
 -- closed words are literals and then `0`
 pub closed-is : (ws : List Word) → closed ws ≡ true → ws ≡ map lit (beforeNought ws) ++ (stop ∷ [])
 unfolding closed beforeNought
-closed-is [] h = absurd (false≢true h)
+closed-is [] h = not-both h refl
 closed-is (stop ∷ []) h = refl
-closed-is (stop ∷ w ∷ ws) h = absurd (false≢true h)
+closed-is (stop ∷ w ∷ ws) h = not-both h refl
 closed-is (lit l ∷ ws) h = ap (λ z. lit l ∷ z) (closed-is ws h)
 
 pub is-closed : (xs : List Literal) → closed (map lit xs ++ (stop ∷ [])) ≡ true
@@ -141,7 +142,7 @@ module _ (n : ℕ) (cs : List Clause) (t : List ℕ) where
     pass-8 f = passes-row 8 (λ p h. h .2 .broken (subst (λ z. MadeTrue (holds z) cs (h .2 .index)) (gives-one t xs (h .0) g (h .1)) (f (h .2 .index))))
 
     not-missing : ((v : ℕ) → 1 ≤ v → v ≤ n → among v (variables xs) ≡ true) → Missing n (variables xs) → ⊥
-    not-missing f m = true≢false (sym (f (m .0) (m .1) (m .2)) ∙ m .3)
+    not-missing f m = not-both (f (m .0) (m .1) (m .2)) (m .3)
 
     -- a model is refused by no row
     pub model-passes : IsModel n cs xs → Passes (replyRows n cs t)
@@ -193,10 +194,10 @@ module _ (n : ℕ) (cs : List Clause) (t : List ℕ) where
     unfolding replied accepts
     settled-means (Refused6 p) e z =
         subst (λ q. Means n cs t (Refused 6 q)) (sym z)
-        (is-refused 6 0 (by-6 0 (refl, inr ((wf, λ k. false≢true (sym (ap accepts e) ∙ keeps-accepts ss ws k)), refl))))
+        (is-refused 6 0 (by-6 0 (refl, inr ((wf, λ k. not-both (keeps-accepts ss ws k) (ap accepts e)), refl))))
     settled-means (Sat zs) e h = checked-means (beforeNought zs) (record { well-formed = wf; status-lines = h .0; value-words = h .1 ∙ closed-is zs (h .2) })
-    settled-means Unsat e h = is-claimed (record { well-formed = wf; status-lines = h .0; value-words = h .1 }) (pass-all wf (inr (inl (h .0), h .1)) (λ d. let z : _≡_ {A = ℕ} 0 1 = cc in absurd (omega arith)))
-    settled-means Unsure e h = is-unknown (record { well-formed = wf; status-lines = h .0; value-words = h .1 }) (pass-all wf (inr (inr (h .0), h .1)) (λ d. let z : _≡_ {A = ℕ} 0 1 = cc in absurd (omega arith)))
+    settled-means Unsat e h = is-claimed (record { well-formed = wf; status-lines = h .0; value-words = h .1 }) (pass-all wf (inr (inl (h .0), h .1)) (λ d. never cc))
+    settled-means Unsure e h = is-unknown (record { well-formed = wf; status-lines = h .0; value-words = h .1 }) (pass-all wf (inr (inr (h .0), h .1)) (λ d. never cc))
 
   -- THE MEANING OF AN ANSWER
   pub reply-means : Means n cs t (replyOf n cs t)

@@ -1,13 +1,13 @@
 -- Row 7: where no variable is too large or seen before, variables are missing exactly if there are fewer literals than variables. Assumes nothing.
 use mathlib.Core.Path.{_≡_, refl, sym, ap, subst, _∙_}
-use mathlib.Core.Bool.{Bool, true, false, cond, _&&_, _||_, true≢false}
+use mathlib.Core.Bool.{Bool, true, false, cond, _&&_, _||_}
 use mathlib.Core.List.{List, [], _∷_}
 use Prim.Native.Nat.{ℕ, zero, suc, _+_, _≤_, _<_}
 use native.Mathlib.Omega.{arith}
 use lib.Dec.{eqb, leb, ltb, leb·suc-suc}
 use lib.ListN.{length}
 use borrow.Author.Tests.{eqb-true, eqb-false, eq-eqb, le-leb, lt-leb, leb-true, leb-false, ltb-false}
-use Rattle.facts.proofs.Bools.{both, or-both}
+use Rattle.facts.proofs.Bools.{both, or-both, not-both}
 use Rattle.dimacs.specs.Reply.{every}
 use Rattle.dimacs.specs.Model.{among}
 use Rattle.dimacs.specs.Decision.{firstWrong, allThere}
@@ -86,7 +86,7 @@ unseen n i seen [] h u m = refl
 unseen n i seen (v ∷ vs) h u m = let g = first-right n i seen v vs h in or-both (differs (eqb u v) refl (g .1)) (unseen n (suc i) (v ∷ seen) vs (g .2) u (or-right (eqb u v) m))
   where
     differs : (x : Bool) → eqb u v ≡ x → among v seen ≡ false → x ≡ false
-    differs true e f = absurd (true≢false (sym (subst (λ z. among z seen ≡ true) (eqb-true u v e) m) ∙ f))
+    differs true e f = not-both refl (sym (subst (λ z. among z seen ≡ true) (eqb-true u v e) m) ∙ f)
     differs false e f = refl
 
     or-right : (x : Bool) → among u seen ≡ true → (x || among u seen) ≡ true

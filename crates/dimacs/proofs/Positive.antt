@@ -8,7 +8,7 @@ use native.Mathlib.Omega.{arith}
 use lib.Dec.{leb}
 use lib.ListN.{length}
 use borrow.Author.Tests.{leb-true, le-leb}
-use Rattle.facts.proofs.Bools.{and-both, both}
+use Rattle.facts.proofs.Bools.{and-both, both, never}
 use Rattle.dimacs.specs.Reply.{every, Word, stop, lit, decimal, isLiteral, literal, Status, Line, bad, quiet, says, gives, lines, lineOf, literals}
 use Rattle.dimacs.specs.Model.{beforeNought, variables}
 use Rattle.dimacs.specs.Forms.{IsLiteral, a-nought, a-plain, a-negated, IsLine, empty, c-alone, c-blank, s-line, v-line}
@@ -89,7 +89,7 @@ settle-sat ss ys xs h = subst (Settled ss ys) h (settled ss ys) .1
 pub badFirst-sat : (n : ℕ) (a : Parsed) (xs : List Word) → badFirst n a ≡ Sat xs → a ≡ Sat xs
 unfolding badFirst
 badFirst-sat zero a xs h = h
-badFirst-sat (suc n) a xs h = let z : _≡_ {A = ℕ} 0 1 = cc in absurd (omega arith)
+badFirst-sat (suc n) a xs h = never cc
 
 before-pos : (xs : List Word) → every pos xs ≡ true → every (leb 1) (variables (beforeNought xs)) ≡ true
 unfolding every beforeNought pos

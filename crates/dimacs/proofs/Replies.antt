@@ -8,6 +8,7 @@ use Prim.Native.Nat.{ℕ, suc}
 use native.Mathlib.Omega.{arith}
 use lib.Dec.{eqb}
 use lib.ListN.{take}
+use Rattle.facts.proofs.Bools.{never}
 use Rattle.dimacs.specs.Clause.{Clause}
 use Rattle.dimacs.specs.Decision.{firstFalse, Parsed, Refused6, Sat, Unsat, Unsure, answerOf, accepts, place7, checked, replied, replyOf}
 use Rattle.dimacs.specs.Reply.{Ended}
@@ -46,8 +47,8 @@ module _ (n : ℕ) (cs : List Clause) where
     where
       go : (b c : Bool) → cond b (cond c (Accepted (beforeNought xs)) (Refused 8 (firstFalse (holds (beforeNought xs)) 1 cs))) (Refused 7 (place7 n (variables (beforeNought xs)))) ≡ Refused 6 p → Sat xs ≡ Refused6 p
       go true true h = cc
-      go true false h = let z : _≡_ {A = ℕ} 8 6 = cc in absurd (omega arith)
-      go false c h = let z : _≡_ {A = ℕ} 7 6 = cc in absurd (omega arith)
+      go true false h = never cc
+      go false c h = never cc
   six-says Unsat p h = cc
   six-says Unsure p h = cc
 

@@ -1,14 +1,14 @@
 -- Each of the three searches of a reply (the first line not well-formed, the first wrong position, the first false clause) brings the first that
 -- breaks its rule. One shape: a list is searched from its front, and what is searched for moves up one place. Assumes nothing.
 use mathlib.Core.Path.{_≡_, refl, sym, subst, _∙_}
-use mathlib.Core.Bool.{Bool, true, false, cond, _&&_, _||_, false≢true, true≢false}
+use mathlib.Core.Bool.{Bool, true, false, cond, _&&_, _||_}
 use mathlib.Core.List.{List, [], _∷_}
 use Prim.Native.Nat.{ℕ, zero, suc, _+_, _≤_, _<_}
 use native.Mathlib.Omega.{arith}
 use lib.Dec.{eqb, ltb}
 use lib.ListN.{length, getD, take}
 use borrow.Author.Tests.{eqb-true, eqb-false, ltb-false, ltb-true}
-use Rattle.facts.proofs.Bools.{both, neither, or-both}
+use Rattle.facts.proofs.Bools.{both, neither, or-both, not-both, never}
 use Rattle.refusals.specs.Table.{Searched, all-keep, one-breaks}
 use Rattle.dimacs.specs.Clause.{Clause, makes, makesAll}
 use Rattle.dimacs.specs.Decision.{firstFalse, firstBad, firstWrong, allThere}
@@ -42,11 +42,11 @@ searched (one j e b h) = one-breaks (record { index = j; counted = e; broken = b
 
 bad-from : (k : ℕ) (ks : List Line) → From (λ i. getD ks i quiet ≡ bad → ⊥) k (firstBad k ks)
 unfolding firstBad
-bad-from k [] = none refl (λ i e. let z : _≡_ {A = ℕ} 0 1 = cc in absurd (omega arith))
+bad-from k [] = none refl (λ i e. never cc)
 bad-from k (bad ∷ ks) = here (λ g. g refl)
-bad-from k (quiet ∷ ks) = later (λ e. let z : _≡_ {A = ℕ} 0 1 = cc in absurd (omega arith)) (λ i h. h) (λ i h. h) (bad-from (suc k) ks)
-bad-from k (says s ∷ ks) = later (λ e. let z : _≡_ {A = ℕ} 0 1 = cc in absurd (omega arith)) (λ i h. h) (λ i h. h) (bad-from (suc k) ks)
-bad-from k (gives xs ∷ ks) = later (λ e. let z : _≡_ {A = ℕ} 0 1 = cc in absurd (omega arith)) (λ i h. h) (λ i h. h) (bad-from (suc k) ks)
+bad-from k (quiet ∷ ks) = later (λ e. never cc) (λ i h. h) (λ i h. h) (bad-from (suc k) ks)
+bad-from k (says s ∷ ks) = later (λ e. never cc) (λ i h. h) (λ i h. h) (bad-from (suc k) ks)
+bad-from k (gives xs ∷ ks) = later (λ e. never cc) (λ i h. h) (λ i h. h) (bad-from (suc k) ks)
 
 -- the first line not well-formed
 pub bad-searched : (ks : List Line) → Searched (λ i. getD ks i quiet ≡ bad → ⊥) (firstBad 1 ks)
@@ -59,7 +59,7 @@ false-from σ k (c ∷ cs) = go (makes σ c) refl (false-from σ (suc k) cs)
   where
     go : (x : Bool) → makes σ c ≡ x → From (MadeTrue σ cs) (suc k) (firstFalse σ (suc k) cs) → From (MadeTrue σ (c ∷ cs)) k (cond x (firstFalse σ (suc k) cs) k)
     go true e f = later (λ h. e) (λ i g h. g (omega arith)) (λ i g h. g (omega arith)) f
-    go false e f = here (λ g. true≢false (sym (g (omega arith)) ∙ e))
+    go false e f = here (λ g. not-both (g (omega arith)) e)
 
 -- the first clause that is made false
 pub false-searched : (σ : ℕ → Bool) (cs : List Clause) → Searched (MadeTrue σ cs) (firstFalse σ 1 cs)
@@ -88,7 +88,7 @@ wrong-from n k seen (v ∷ vs) = go (ltb n v) refl (among v seen) refl (wrong-fr
 
     go : (x : Bool) → ltb n v ≡ x → (y : Bool) → among v seen ≡ y → From (FitsAfter n (v ∷ seen) vs) (suc k) (firstWrong n (v ∷ seen) (suc k) vs) → From (FitsAfter n seen (v ∷ vs)) k (cond (x || y) k (firstWrong n (v ∷ seen) (suc k) vs))
     go true e y f r = here (λ g. let a = g (omega arith) .0 in let b = ltb-true n v e in absurd (omega arith))
-    go false e true f r = here (λ g. true≢false (sym f ∙ g (omega arith) .1))
+    go false e true f r = here (λ g. not-both f (g (omega arith) .1))
     go false e false f r = later (λ h. (ltb-false n v e, f, refl)) up down r
 
 fits-from : (n k : ℕ) (vs : List ℕ) {r : ℕ} → From (FitsAfter n [] vs) k r → From (Fits n vs) k r
@@ -112,7 +112,7 @@ all-there (suc n) vs h v a b = let g = both (among (suc n) vs) (allThere n vs) h
 
 pub one-missing : (n : ℕ) (vs : List ℕ) → allThere n vs ≡ false → Missing n vs
 unfolding allThere
-one-missing zero vs h = absurd (true≢false h)
+one-missing zero vs h = not-both refl h
 one-missing (suc n) vs h = go (among (suc n) vs) refl (one-missing n vs) h
   where
     go : (x : Bool) → among (suc n) vs ≡ x → (allThere n vs ≡ false → Missing n vs) → (x && allThere n vs) ≡ false → Missing (suc n) vs
@@ -136,4 +136,4 @@ true-none σ k (c ∷ cs) h = go (makes σ c) (λ j. true-none σ j cs) h
   where
     go : (x : Bool) → ((j : ℕ) → makesAll σ cs ≡ true → firstFalse σ j cs ≡ 0) → (x && makesAll σ cs) ≡ true → cond x (firstFalse σ (suc k) cs) k ≡ 0
     go true r h = r (suc k) h
-    go false r h = absurd (false≢true h)
+    go false r h = not-both h refl

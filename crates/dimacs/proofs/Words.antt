@@ -1,6 +1,6 @@
 -- `lineOf` and `literal` know exactly the lines and literals of document 01's sentence. Assumes nothing.
 use mathlib.Core.Path.{_≡_, refl, sym, ap, subst, _∙_}
-use mathlib.Core.Bool.{Bool, true, false, cond, _&&_, _||_, false≢true}
+use mathlib.Core.Bool.{Bool, true, false, cond, _&&_, _||_}
 use mathlib.Core.List.{List, [], _∷_, _++_, append-nil}
 use mathlib.Core.Logic.{_⊎_, inl, inr}
 use Prim.Native.Nat.{ℕ, _≤_, _<_}
@@ -10,7 +10,7 @@ use lib.ListN.{length}
 use borrow.Author.Tests.{eqb-true, eq-eqb, ne-eqb, leb-true, le-leb}
 use Rattle.facts.specs.Same.{same}
 use Rattle.facts.proofs.Same.{same-true}
-use Rattle.facts.proofs.Bools.{and-both, both, neither, or-both}
+use Rattle.facts.proofs.Bools.{and-both, both, neither, or-both, not-both}
 use Rattle.dimacs.specs.Reply.{onto, split, every, isDigit, Word, stop, lit, isNumber, decimal, nought, isLiteral, literal, unsigned, negative, satisfiable, unsatisfiable, unknown, text, Line, bad, quiet, says, statusWord, statusLine, valueLine, tagged, lineOf}
 use Rattle.dimacs.specs.Forms.{IsLiteral, a-nought, a-plain, a-negated, spaced, IsLine, empty, c-alone, c-blank, s-line, v-line}
 use Rattle.dimacs.proofs.Cut.{StatusWord, no-status, a-status, status-word-view}
@@ -95,11 +95,11 @@ says-number b u h k d = and-both h (and-both (le-leb (length u) 2 k) d)
 -- with or without a minus
 number-shows : (w : List ℕ) → isNumber (unsigned w) ≡ true → IsLiteral w (lit (record { variable = decimal 0 (unsigned w); negated = negative w }))
 unfolding unsigned negative isNumber
-number-shows [] h = absurd (false≢true h)
+number-shows [] h = not-both h refl
 number-shows (b ∷ w) h = go (eqb b 45) refl h
   where
     signed : (u : List ℕ) → isNumber u ≡ true → IsLiteral (45 ∷ u) (lit (record { variable = decimal 0 u; negated = true }))
-    signed [] h = absurd (false≢true h)
+    signed [] h = not-both h refl
     signed (d ∷ u) h = let g = number-says d u h in a-negated d u (g .0) (g .1) (g .2)
 
     go : (x : Bool) → eqb b 45 ≡ x → isNumber (cond x w (b ∷ w)) ≡ true → IsLiteral (b ∷ w) (lit (record { variable = decimal 0 (cond x w (b ∷ w)); negated = x }))

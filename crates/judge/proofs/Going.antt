@@ -7,7 +7,7 @@ use native.Mathlib.Omega.{arith}
 use lib.ListN.{length, getD, take, replicate}
 use lib.Seq.{length-take-le}
 use borrow.Author.Tests.{not-true, not-false}
-use Rattle.facts.proofs.Bools.{not-both}
+use Rattle.facts.proofs.Bools.{not-both, never}
 use Rattle.refusals.specs.Table.{Searched, all-keep, one-breaks}
 use Rattle.channel.specs.Channel.{T, M, trackAt, connectionAt}
 use Rattle.channel.specs.Routing.{routings}
@@ -86,7 +86,7 @@ module _ {f q marks : List ℕ} {i : ℕ} (k : Asked f q marks i) where
     -- what `fits_run` answered, where the code asks `!fits_run`
     module _ {r : Bool} (answer : r ≡ fitsRun marks (getD q i 0) a e) where
       pub asked-shut : not r ≡ true → Searched (RoutingKept f q) (i + 1)
-      asked-shut s = breaks g (k .inside) (λ h. let y = sym (kept-fits (jobOf f) q i (k .inside) h) ∙ sym test ∙ sym answer ∙ not-true r s in let z : _≡_ {A = ℕ} 0 1 = cc in omega arith)
+      asked-shut s = breaks g (k .inside) (λ h. let y = sym (kept-fits (jobOf f) q i (k .inside) h) ∙ sym test ∙ sym answer ∙ not-true r s in never cc)
 
       fits : not r ≡ false → fitsRun marks (getD q i 0) a e ≡ true
       fits s = sym answer ∙ not-false r s

@@ -9,6 +9,7 @@ use native.Mathlib.Nat.{add-zero, add-suc, suc-add}
 use lib.Dec.{eqb}
 use lib.ListN.{length}
 use borrow.Author.Tests.{eqb-true, eqb-false}
+use Rattle.facts.proofs.Bools.{never}
 use Rattle.dimacs.specs.Clause.{makes}
 use Rattle.dimacs.specs.Decision.{firstFalse}
 use Rattle.channel.specs.declared.Code.{Code}
@@ -63,7 +64,7 @@ module _ (σ : ℕ → Bool) (grid : Grid) (codes : List Code) (is : (i : ℕ) �
       go : (a : Bool) → makes σ (bar w i c) ≡ a → (b : Bool) → eqb (codeFor codes i) c ≡ b → a ≡ not b
       go true h true e =
           let s = spelt σ w (i * w + 1) c (sym (is i l) ∙ eqb-true (codeFor codes i) c e) in
-          let z : _≡_ {A = ℕ} 0 1 = cc in absurd (omega arith)
+          never cc
       go true h false e = refl
       go false h true e = refl
       go false h false e = absurd (eqb-false (codeFor codes i) c e (is i l ∙ unmade σ w (i * w + 1) c k h))

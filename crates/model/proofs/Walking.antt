@@ -7,7 +7,7 @@ use native.Mathlib.Omega.{arith}
 use lib.Dec.{eqb}
 use lib.ListN.{length, length-append}
 use borrow.Author.Tests.{eqb-true, eq-eqb, ne-eqb}
-use Rattle.facts.proofs.Bools.{and-left, and-right}
+use Rattle.facts.proofs.Bools.{and-left, and-right, never}
 use Rattle.channel.specs.declared.Code.{Code}
 use Rattle.channel.specs.Valid.{Each}
 use Rattle.channel.proofs.Validity.{each-append}
@@ -84,4 +84,4 @@ module _ (runs : List ℕ) (codes : List Code) (t m : ℕ) (row : Row) (h : ℕ)
       none c b true q =
           let z = eqb-true own c q in
           o .both codes c ∙ (λ y. eqb (codeFor codes h) (sym z y) && (q ∙ sym b ∙ ap (forbiddenIn runs t row) (sym z)) y) ∙ e
-      none c b false q = differs c (λ z. let y : _≡_ {A = ℕ} 0 1 = cc (eq-eqb own c z) in omega arith)
+      none c b false q = differs c (λ z. never (cc (eq-eqb own c z)))

@@ -62,23 +62,23 @@ paid b k {r} {y} = go (leb k b) refl
 pub found-is : {b i n : ℕ} (o : Res) {l l′ : List ℕ} {X : Type 0} → CutTo b i o l (Found n) l′ → ((q : List ℕ) (k : ℕ) → o ≡ found q k → k ≤ b → n ≡ b - k → l′ ≡ over l i q → X) → X
 unfolding stepOf written
 found-is {b} {i} {n} (found q k) {l} {l′} a f =
-    ⊎-elim (λ w. f q k refl (w .0) (cc) (a .labels ∙ ap (λ x. cond x (over l i q) l) (le-leb k b (w .0)))) (λ w. let z : _≡_ {A = ℕ} 0 1 = cc in absurd (omega arith)) (paid b k (a .step))
+    ⊎-elim (λ w. f q k refl (w .0) (cc) (a .labels ∙ ap (λ x. cond x (over l i q) l) (le-leb k b (w .0)))) (λ w. never cc) (paid b k (a .step))
 found-is {b} {i} {n} (dead k) {l} {l′} a f =
-    ⊎-elim (λ w. let z : _≡_ {A = ℕ} 0 1 = cc in absurd (omega arith)) (λ w. let z : _≡_ {A = ℕ} 0 1 = cc in absurd (omega arith)) (paid b k (a .step))
+    ⊎-elim (λ w. never cc) (λ w. never cc) (paid b k (a .step))
 
 pub dead-is : {b i n : ℕ} (o : Res) {l l′ : List ℕ} {X : Type 0} → CutTo b i o l (Dead n) l′ → ((k : ℕ) → o ≡ dead k → k ≤ b → n ≡ b - k → l′ ≡ l → X) → X
 unfolding stepOf written
 dead-is {b} {i} {n} (dead k) {l} {l′} a f =
-    ⊎-elim (λ w. f k refl (w .0) (cc) (a .labels)) (λ w. let z : _≡_ {A = ℕ} 0 1 = cc in absurd (omega arith)) (paid b k (a .step))
+    ⊎-elim (λ w. f k refl (w .0) (cc) (a .labels)) (λ w. never cc) (paid b k (a .step))
 dead-is {b} {i} {n} (found q k) {l} {l′} a f =
-    ⊎-elim (λ w. let z : _≡_ {A = ℕ} 0 1 = cc in absurd (omega arith)) (λ w. let z : _≡_ {A = ℕ} 0 1 = cc in absurd (omega arith)) (paid b k (a .step))
+    ⊎-elim (λ w. never cc) (λ w. never cc) (paid b k (a .step))
 
 pub spent-is : {b i : ℕ} (o : Res) {l l′ : List ℕ} → CutTo b i o l Spent l′ → (b < size o) × (l′ ≡ l)
 unfolding stepOf written
 spent-is {b} {i} (found q k) {l} {l′} a =
-    ⊎-elim (λ w. let z : _≡_ {A = ℕ} 0 1 = cc in absurd (omega arith)) (λ w. (w .0, a .labels ∙ ap (λ x. cond x (over l i q) l) (lt-leb k b (w .0)))) (paid b k (a .step))
+    ⊎-elim (λ w. never cc) (λ w. (w .0, a .labels ∙ ap (λ x. cond x (over l i q) l) (lt-leb k b (w .0)))) (paid b k (a .step))
 spent-is {b} {i} (dead k) {l} {l′} a =
-    ⊎-elim (λ w. let z : _≡_ {A = ℕ} 0 1 = cc in absurd (omega arith)) (λ w. (w .0, a .labels)) (paid b k (a .step))
+    ⊎-elim (λ w. never cc) (λ w. (w .0, a .labels)) (paid b k (a .step))
 
 -- c trials more under a budget that has them
 more : (b c i : ℕ) (o : Res) (l : List ℕ) (r : Step) (l′ : List ℕ) → c ≤ b → CutTo (b - c) i o l r l′ → CutTo b i (plus c o) l r l′

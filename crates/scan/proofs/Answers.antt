@@ -1,13 +1,14 @@
 -- What a reading decides: the answer of `replyOf` by the answer of row 6, the first wrong position, the count of literals and the marks.
 -- Missing variables are a matter of counting (`reply-missing`). Assumes nothing.
 use mathlib.Core.Path.{_≡_, refl, sym, ap, subst, _∙_}
-use mathlib.Core.Bool.{Bool, true, false, cond, not, _||_, false≢true}
+use mathlib.Core.Bool.{Bool, true, false, cond, not, _||_}
 use mathlib.Core.List.{List, [], _∷_}
 use Prim.Native.Nat.{ℕ, _+_, _≤_, _<_}
 use native.Mathlib.Omega.{arith}
 use lib.Dec.{eqb, leb}
 use lib.ListN.{length, getD, length-map}
 use borrow.Author.Tests.{le-leb, lt-leb}
+use Rattle.facts.proofs.Bools.{not-both}
 use Rattle.dimacs.specs.Clause.{Literal, Clause}
 use Rattle.dimacs.specs.Reply.{Word}
 use Rattle.dimacs.specs.Model.{beforeNought, among, variables, holds}
@@ -23,7 +24,7 @@ use Rattle.scan.specs.Marks.{brief, markOf, Done}
 -- the mark of a variable that is among the literals: 1 where the model holds it, 2 where not
 mark-holds : (xs : List Literal) (v : ℕ) → among v (variables xs) ≡ true → markOf xs v ≡ cond (holds xs v) 1 2
 unfolding markOf holds among
-mark-holds [] v h = absurd (false≢true h)
+mark-holds [] v h = not-both h refl
 mark-holds (x ∷ xs) v h = go (eqb v (x .variable)) (x .negated) (mark-holds xs v) h
   where
     go : (a n : Bool) → (among v (variables xs) ≡ true → markOf xs v ≡ cond (holds xs v) 1 2) → (a || among v (variables xs)) ≡ true → cond a (cond n 2 1) (markOf xs v) ≡ cond (cond a (not n) (holds xs v)) 1 2

@@ -1,11 +1,12 @@
 -- Status words: their numbers, and that none has a blank. Assumes nothing.
 use mathlib.Core.Path.{_≡_, refl, sym, ap, _∙_}
-use mathlib.Core.Bool.{Bool, true, false, _||_, true≢false}
+use mathlib.Core.Bool.{Bool, true, false, _||_}
 use mathlib.Core.List.{List, [], _∷_, _++_}
 use Prim.Native.Nat.{ℕ}
 use lib.Dec.{eqb}
 use borrow.Author.Tests.{eq-eqb}
 use Rattle.facts.specs.Same.{same}
+use Rattle.facts.proofs.Bools.{not-both}
 use Rattle.dimacs.specs.Reply.{Status, satisfiable, unsatisfiable, unknown, text, Line, bad, statusWord, statusLine}
 use Rattle.dimacs.proofs.Cut.{StatusWord, no-status, a-status, status-word-view}
 use Rattle.dimacs.proofs.Words.{has}
@@ -49,5 +50,5 @@ status-blank p [] h = go (status-word-view p)
   where
     go : {x : Line} → StatusWord p x → bad ≡ x
     go no-status = refl
-    go (a-status s e) = absurd (true≢false (sym h ∙ ap (has 32) e ∙ no-blank s))
+    go (a-status s e) = not-both refl (sym h ∙ ap (has 32) e ∙ no-blank s)
 status-blank p (w ∷ ws) h = refl

@@ -1,7 +1,8 @@
 -- `scan::line::status` meets its contract: a word is one of the three texts or none of them (Codes).
 use mathlib.Core.Path.{sym, _∙_}
-use mathlib.Core.Bool.{true≢false}
+use mathlib.Core.Bool.{}
 use borrow.Author.Needs.{needs}
+use Rattle.facts.proofs.Bools.{not-both}
 use Rattle.dimacs.specs.Reply.{satisfiable, unsatisfiable, unknown, text}
 use Rattle.scan.proofs.Codes.{word-code, no-code}
 use Rattle.scan.proofs.line.status.Statement.{statement}
@@ -22,9 +23,9 @@ returns-3 c = word-code unknown _ (c .before .same3 .ensures .0 (c .if3 .taken))
 returns-4 : tie.Need-returns-4
 unfolding text
 returns-4 c =
-    no-code _ (λ e. true≢false (sym (c .before .before .before .before .before .before .before .same .ensures .1 e) ∙ c .before .before .before .before .before .before .if1 .left))
-    (λ e. true≢false (sym (c .before .before .before .before .same2 .ensures .1 e) ∙ c .before .before .before .if2 .left))
-    (λ e. true≢false (sym (c .before .same3 .ensures .1 e) ∙ c .if3 .left))
+    no-code _ (λ e. not-both (c .before .before .before .before .before .before .before .same .ensures .1 e) (c .before .before .before .before .before .before .if1 .left))
+    (λ e. not-both (c .before .before .before .before .same2 .ensures .1 e) (c .before .before .before .if2 .left))
+    (λ e. not-both (c .before .same3 .ensures .1 e) (c .if3 .left))
 
 pub status-spec : {M : Type 1} → statement M
 status-spec =
