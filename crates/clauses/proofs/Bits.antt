@@ -7,18 +7,12 @@ use native.Mathlib.Omega.{arith}
 use native.Mathlib.Nat.{pow-succ'}
 use lib.Dec.{eqb}
 use borrow.Author.Tests.{eqb-true, eqb-false, eq-eqb, ne-eqb}
+use Rattle.facts.specs.Odd.{odd, bitOf}
 use Rattle.facts.proofs.Bools.{neither, whether}
+use Rattle.facts.proofs.Odd.{bit-odd, odd-bit}
 use Rattle.dimacs.specs.Clause.{Literal, isTrue, makes}
-use Rattle.clauses.specs.Clauses.{odd, forbid}
-use Rattle.clauses.specs.Reading.{bitOf}
+use Rattle.clauses.specs.Clauses.{forbid}
 use Rattle.clauses.proofs.Joins.{bit-le, makes-append}
-
-pub bit-odd : (c : ℕ) → bitOf (odd c) ≡ c % 2
-bit-odd c = whether (eqb (c % 2) 1) (λ h. rw h (sym (eqb-true (c % 2) 1 h))) (λ h. rw h (let n = eqb-false (c % 2) 1 h in omega arith))
-
-pub odd-bit : (c : ℕ) (b : Bool) → c % 2 ≡ bitOf b → odd c ≡ b
-odd-bit c true h = eq-eqb (c % 2) 1 h
-odd-bit c false h = ne-eqb (c % 2) 1 (λ e. omega arith)
 
 -- the code that k variables from v on spell, the highest bit first
 unfoldable pub codeAt : (ℕ → Bool) → ℕ → ℕ → ℕ

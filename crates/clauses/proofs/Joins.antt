@@ -7,13 +7,13 @@ use Prim.Native.Nat.{ℕ, zero, suc, _+_, _*_, _≤_, _<_}
 use native.Mathlib.Nat.{eq-or-lt-of-le, suc-mul, add-zero, add-suc}
 use native.Mathlib.Omega.{arith}
 use lib.ListN.{length, length-append}
+use Rattle.facts.specs.Odd.{bitOf}
 use Rattle.facts.proofs.Bools.{and-left, and-right, and-both, not-both}
 pub use Rattle.facts.proofs.Bools.{one-most as bit-le}
 use Rattle.dimacs.specs.Clause.{Clause, isTrue, makes, makesAll}
 use Rattle.channel.specs.Valid.{Each}
 use Rattle.channel.proofs.Validity.{each-append}
 use Rattle.clauses.specs.Clauses.{joinTo, only}
-use Rattle.clauses.specs.Reading.{bitOf}
 
 -- what holds of n and of all below it holds of all below n + 1
 last-or-before : (P : ℕ → Type 0) (i n : ℕ) → i < suc n → (i < n → P i) → P n → P i

@@ -7,3 +7,4 @@ pub mod Models
 pub mod Same
 pub mod Groups
 pub mod Order
+pub mod Before

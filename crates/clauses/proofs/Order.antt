@@ -8,10 +8,11 @@ use native.Mathlib.Omega.{arith}
 use native.Mathlib.Nat.{div-div-eq-div-mul, pow-succ', suc-mul, mul-le-mul, le-refl}
 use lib.ListN.{length, length-append}
 use borrow.Author.Tests.{le-leb}
+use Rattle.facts.specs.Odd.{odd}
 use Rattle.facts.proofs.Bools.{and-both}
 use Rattle.dimacs.specs.Clause.{Literal, Clause, within, withinAll}
 use Rattle.channel.specs.Channel.{Job}
-use Rattle.clauses.specs.Clauses.{Grid, gridOf, joinTo, odd, forbid, bar, widthOf, clausesOf, clauses, variableCount}
+use Rattle.clauses.specs.Clauses.{Grid, gridOf, joinTo, forbid, bar, widthOf, clausesOf, clauses, variableCount}
 use Rattle.clauses.specs.Groups.{InPairs, Rises}
 use Rattle.clauses.proofs.Joins.{join-same}
 use Rattle.clauses.proofs.Groups.{clauses-are}

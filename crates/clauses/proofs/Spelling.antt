@@ -7,11 +7,13 @@ use native.Mathlib.Omega.{arith}
 use native.Mathlib.Nat.{pow-succ', zero-mul, suc-mul}
 use lib.ListN.{length, getD, take, drop, length-append, length-drop, take-append-drop, List·getD-append}
 use lib.Seq.{take-suc, getD-at, drop-at, drop-drop, getD-drop}
+use Rattle.facts.specs.Odd.{odd, bitOf}
+use Rattle.facts.proofs.Odd.{bit-odd, odd-bit}
 use Rattle.dimacs.specs.Clause.{valueIn}
-use Rattle.clauses.specs.Clauses.{odd, bits, spell}
-use Rattle.clauses.specs.Reading.{bitOf, numberIn, codesIn}
+use Rattle.clauses.specs.Clauses.{bits, spell}
+use Rattle.clauses.specs.Reading.{numberIn, codesIn}
 use Rattle.clauses.proofs.Joins.{bit-le}
-use Rattle.clauses.proofs.Bits.{bit-odd, odd-bit, codeAt}
+use Rattle.clauses.proofs.Bits.{codeAt}
 
 bits-length : (k c : ℕ) → length (bits k c) ≡ k
 unfolding bits

@@ -5,8 +5,10 @@ use mathlib.Core.List.{List, [], _∷_, _++_, map}
 use Prim.Native.Nat.{ℕ, zero, suc, _+_, _*_, _-_, _/_, _%_, _^_, _≤_}
 use lib.Dec.{ltb, leb, eqb}
 use lib.ListN.{length}
+use Rattle.facts.specs.Odd.{odd}
 use Rattle.dimacs.specs.Clause.{Clause, valueIn, makesAll}
-use Rattle.channel.specs.Channel.{Job, T, M, Barred, Collide}
+use Rattle.channel.specs.Channel.{Job, T, M}
+use Rattle.channel.specs.Routing.{Rules, rulesOf}
 use Rattle.channel.specs.Label.{label, code, codeOf, labelOf}
 
 -- what the clauses rest on: how many tracks and connections, which codes are barred for a connection, and on which codes two connections collide.
@@ -24,9 +26,12 @@ labelWith c = labelOf (code c) .0
 abbrev pub codeWith : ℕ → ℕ
 codeWith l = codeOf (label l) .0
 
--- the grid of a job: clauses carry codes, a job has labels
+-- the grid of rules, and of a job: clauses carry codes, rules and jobs have labels
+abbrev pub gridBy : Rules → Grid
+gridBy r = record { tracks = r .tracks; connections = r .connections; barred = λ i c. r .barred i (labelWith c); collide = λ h i c. r .collide h i (labelWith c) }
+
 abbrev pub gridOf : Job → Grid
-gridOf j = record { tracks = T j; connections = M j; barred = λ i c. Barred j i (labelWith c); collide = λ h i c. Collide j h i (labelWith c) }
+gridOf j = gridBy (rulesOf j)
 
 -- w is the least whole number with 2 ^ w ≥ t, but at least 1
 pub record Width (t w : ℕ) : Type 0 where
@@ -52,10 +57,6 @@ joinTo (suc n) f = joinTo n f ++ f n
 unfoldable pub only : {A : Type 0} → Bool → A → List A
 only true x = x ∷ []
 only false x = []
-
--- the lowest bit is 1
-abbrev pub odd : ℕ → Bool
-odd c = eqb (c % 2) 1
 
 -- the literals that forbid a code of k bits at the variables from v on, bit 1 the highest: plain where the bit is 0 and negated where it is 1
 unfoldable pub forbid : ℕ → ℕ → ℕ → Clause

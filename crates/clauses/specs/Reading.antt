@@ -3,12 +3,9 @@ use mathlib.Core.Bool.{Bool, false, cond}
 use mathlib.Core.List.{List, [], _∷_, map}
 use Prim.Native.Nat.{ℕ, zero, suc, _+_, _*_}
 use lib.ListN.{getD, drop}
+use Rattle.facts.specs.Odd.{bitOf}
 use Rattle.channel.specs.Channel.{Job, M}
 use Rattle.clauses.specs.Clauses.{labelWith, width}
-
--- a bit as a number
-abbrev pub bitOf : Bool → ℕ
-bitOf b = cond b 1 0
 
 -- the number that the first k bits of a list spell; the codes of m connections that an assignment spells, w bits each
 unfoldable pub numberIn : ℕ → List Bool → ℕ

@@ -1,3 +1,4 @@
 pub mod Bools
 pub mod Tells
 pub mod Same
+pub mod Odd

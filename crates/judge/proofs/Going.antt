@@ -1,5 +1,5 @@
 -- The walk over the labels: where it stands, one step of it, and the ways out. The marks are those of the labels passed, which are a legal partial routing. Assumes nothing.
-use mathlib.Core.Path.{_≡_, refl, sym, _∙_}
+use mathlib.Core.Path.{_≡_, refl, sym, ap, _∙_}
 use mathlib.Core.Bool.{Bool, true, false, not}
 use mathlib.Core.List.{List}
 use Prim.Native.Nat.{ℕ, _+_, _≤_, _<_}
@@ -10,12 +10,14 @@ use borrow.Author.Tests.{not-true, not-false}
 use Rattle.facts.proofs.Bools.{not-both, never}
 use Rattle.refusals.specs.Table.{Searched, all-keep, one-breaks}
 use Rattle.channel.specs.Channel.{T, M, trackAt, connectionAt}
-use Rattle.channel.specs.Routing.{routings}
+use Rattle.channel.specs.Valid.{Valid}
+use Rattle.channel.specs.Routing.{routings, routingsBy}
 use Rattle.jobfile.specs.Rows.{tOf, mOf, kOf, jobOf}
 use Rattle.jobfile.specs.Facts.{Facts}
 use Rattle.jobfile.proofs.Decode.{job-valid}
 use Rattle.jobfile.proofs.Exact.{job-numbers}
-use Rattle.occupancy.specs.Runs.{Cell}
+use Rattle.occupancy.specs.Runs.{Cell, ownerAt, Owners}
+use Rattle.occupancy.proofs.Owners.{owners-by}
 use Rattle.marks.specs.Marking.{markBytes, fitsRun, takenRun, Among}
 use Rattle.marks.proofs.Laws.{run-open}
 use Rattle.marks.proofs.Kept.{Kept, among, run-ok, run-next, kept-nil}
@@ -27,10 +29,10 @@ pub record Going (f q marks : List ℕ) (i : ℕ) : Type 0 where
   pub facts : Facts f
   pub many : length q ≡ mOf f
   pub within : i ≤ length q
-  pub kept : Kept (jobOf f) (take i q) (i, marks)
+  pub kept : Kept (jobOf f) (ownerAt (jobOf f)) (take i q) (i, marks)
 
 pub going-first : (f q : List ℕ) → Facts f → length q ≡ mOf f → Going f q (replicate markBytes 0) 0
-going-first f q g e = record { facts = g; many = e; within = omega arith; kept = kept-nil (jobOf f) }
+going-first f q g e = record { facts = g; many = e; within = omega arith; kept = kept-nil (jobOf f) (ownerAt (jobOf f)) }
 
 -- connection i + 1 is asked: its label is one of 1 to T
 pub record Asked (f q marks : List ℕ) (i : ℕ) : Type 0 where
@@ -67,6 +69,12 @@ module _ {f q marks : List ℕ} {i : ℕ} (k : Asked f q marks i) where
   short : length (take i q) < M (jobOf f)
   short = omega (arith, length-take-le i q (g .within), g .many, k .inside, job-numbers f .m-is)
 
+  valid : Valid (jobOf f)
+  valid = job-valid f (g .facts)
+
+  owned : Owners (jobOf f) (ownerAt (jobOf f))
+  owned = owners-by (jobOf f) valid (ownerAt (jobOf f)) (λ i l. refl)
+
   labelled : getD q i 0 ≤ T (jobOf f)
   labelled = omega (arith, k .high, t-is g)
 
@@ -77,29 +85,32 @@ module _ {f q marks : List ℕ} {i : ℕ} (k : Asked f q marks i) where
   -- the cell that was read for it
   module _ {a e : ℕ} (cell : Cell (kOf f) (trackAt (jobOf f .tracks) (getD q i 0)) (connectionAt (jobOf f .connections) i) a e) where
     -- the test by marks is that of the routings
-    test : fitsRun marks (getD q i 0) a e ≡ (routings (jobOf f)) .ok (take i q) (getD q i 0)
-    test = run-ok (jobOf f) (job-valid f (g .facts)) (take i q) (i, marks) (getD q i 0) a e (g .kept) short (k .low) labelled cell
+    test : fitsRun (ownerAt (jobOf f) i) marks (getD q i 0) a e ≡ (routings (jobOf f)) .ok (take i q) (getD q i 0)
+    test = run-ok (jobOf f) valid (ownerAt (jobOf f)) owned (take i q) (i, marks) (getD q i 0) a e (g .kept) short (k .low) labelled cell
 
     pub asked-among : Among (getD q i 0) a e
-    asked-among = among (jobOf f) (job-valid f (g .facts)) i (getD q i 0) a e (k .low) labelled cell
+    asked-among = among (jobOf f) valid i (getD q i 0) a e (k .low) labelled cell
 
     -- what `fits_run` answered, where the code asks `!fits_run`
-    module _ {r : Bool} (answer : r ≡ fitsRun marks (getD q i 0) a e) where
+    module _ {o : ℕ} {r : Bool} (by : o ≡ ownerAt (jobOf f) i) (told : r ≡ fitsRun o marks (getD q i 0) a e) where
+      answer : r ≡ fitsRun (ownerAt (jobOf f) i) marks (getD q i 0) a e
+      answer = told ∙ ap (λ (x : ℕ). fitsRun x marks (getD q i 0) a e) by
+
       pub asked-shut : not r ≡ true → Searched (RoutingKept f q) (i + 1)
       asked-shut s = breaks g (k .inside) (λ h. let y = sym (kept-fits (jobOf f) q i (k .inside) h) ∙ sym test ∙ sym answer ∙ not-true r s in never cc)
 
-      fits : not r ≡ false → fitsRun marks (getD q i 0) a e ≡ true
+      fits : not r ≡ false → fitsRun (ownerAt (jobOf f) i) marks (getD q i 0) a e ≡ true
       fits s = sym answer ∙ not-false r s
 
       pub asked-open : not r ≡ false → a ≤ e
-      asked-open s = run-open marks (getD q i 0) a e (fits s)
+      asked-open s = run-open (ownerAt (jobOf f) i) marks (getD q i 0) a e (fits s)
 
-      pub asked-on : not r ≡ false → (next : List ℕ) → next ≡ takenRun marks (getD q i 0) a e i → Going f q next (i + 1)
-      unfolding routings
+      pub asked-on : not r ≡ false → (next : List ℕ) → next ≡ takenRun o marks (getD q i 0) a e → Going f q next (i + 1)
+      unfolding routingsBy
       asked-on s next n =
           record {
             facts = g .facts;
             many = g .many;
             within = omega (arith, k .inside);
-            kept = rw (n, ← take-next (jobOf f) q i (k .inside)) (run-next (jobOf f) (job-valid f (g .facts)) (take i q) (i, marks) (getD q i 0) a e (g .kept) short (k .low) labelled cell (fits s));
+            kept = rw (n, by, ← take-next (jobOf f) q i (k .inside)) (run-next (jobOf f) valid (ownerAt (jobOf f)) owned (take i q) (i, marks) (getD q i 0) a e (g .kept) short (k .low) labelled cell (fits s));
           }

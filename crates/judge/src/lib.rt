@@ -39,10 +39,11 @@ fn bad_label(file: &[u8], tracks: u8, labels: &[u8]) -> usize
         let run = occupancy::bounds_on(file, &heads, Label(label), i);
         let first = wide(run.first);
         let last = wide(run.last);
-        if !marks::fits_run(&marks, Label(label), first, last) {
+        let owner = occupancy::owner_on(file, i);
+        if !marks::fits_run(owner, &marks, Label(label), first, last) {
             return number;
         }
-        marks = marks::taken_run(&marks, i, Label(label), first, last);
+        marks = marks::taken_run(owner, &marks, Label(label), first, last);
         i += 1;
     }
     0

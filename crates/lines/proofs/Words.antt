@@ -6,12 +6,13 @@ use Prim.Native.Nat.{ℕ, zero, suc, _+_, _*_, _-_, _/_, _≤_, _<_}
 use native.Mathlib.Omega.{arith}
 use native.Mathlib.Nat.{suc-mul}
 use native.Mathlib.Numerals.{sub-one}
+use Rattle.facts.specs.Odd.{odd}
 use Rattle.text.specs.Text.{Wrote, digits}
 use Rattle.dimacs.specs.Clause.{Literal, Clause}
 use Rattle.dimacs.specs.Lines.{literalText, literalsText, clauseText}
 use Rattle.channel.specs.Limits.{mostConnections, mostBits, mostVariables}
 use Rattle.channel.specs.declared.Code.{Code}
-use Rattle.clauses.specs.Clauses.{odd, forbid, bar}
+use Rattle.clauses.specs.Clauses.{forbid, bar}
 use Rattle.clauses.proofs.Width.{variables-few}
 use Rattle.places.specs.declared.Place.{Place}
 use Rattle.places.specs.declared.Place.the-variants.{One, Two}

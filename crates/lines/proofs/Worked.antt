@@ -3,7 +3,7 @@ use mathlib.Core.Path.{_≡_, refl}
 use mathlib.Core.List.{[], _∷_}
 use Rattle.text.specs.Text.{digits}
 use Rattle.dimacs.specs.Lines.{literalText, literalsText, clauseText, headerText}
-use Rattle.channel.specs.Channel.{Job, performance, critical, countTo, anyTo, leftEnd, occupied, taken, tooMany, offPerformance, barred, share, collide, trackAt, connectionAt}
+use Rattle.channel.specs.Channel.{Job, performance, critical, countTo, anyTo, leftEnd, occupied, taken, tooMany, offPerformance, barred, share, collide, trackAt, connectionAt, pieces, net}
 use Rattle.channel.specs.Worked.{track1, track2, jobA, jobOne}
 use Rattle.clauses.specs.Clauses.{seek, bitsFor, joinTo, only, forbid, bar, beyond, bars, pairs, clausesOf, clauseCount}
 use Rattle.lines.specs.Lined.{textOf, lineText}
@@ -15,7 +15,7 @@ pub lines-of-A :
     × (lineText (jobA 0) 1 ≡ 49 ∷ 32 ∷ 50 ∷ 32 ∷ 48 ∷ 10 ∷ [])
     × (lineText (jobA 0) 2 ≡ 50 ∷ 32 ∷ 51 ∷ 32 ∷ 48 ∷ 10 ∷ [])
     × (lineText (jobA 0) 3 ≡ 45 ∷ 50 ∷ 32 ∷ 45 ∷ 51 ∷ 32 ∷ 48 ∷ 10 ∷ [])
-unfolding textOf clausesOf beyond bars pairs joinTo only bar forbid bitsFor seek literalText literalsText clauseText headerText digits performance critical countTo anyTo leftEnd occupied taken tooMany offPerformance barred share collide trackAt connectionAt
+unfolding textOf clausesOf beyond bars pairs joinTo only bar forbid bitsFor seek literalText literalsText clauseText headerText digits performance critical countTo anyTo leftEnd occupied taken tooMany offPerformance barred share pieces net collide trackAt connectionAt
 lines-of-A = (refl, refl, refl, refl, refl)
 
 -- `p cnf 1 1`, `-1 0`
@@ -23,7 +23,7 @@ pub lines-of-one :
     (clauseCount jobOne ≡ 1)
     × (lineText jobOne 0 ≡ 112 ∷ 32 ∷ 99 ∷ 110 ∷ 102 ∷ 32 ∷ 49 ∷ 32 ∷ 49 ∷ 10 ∷ [])
     × (lineText jobOne 1 ≡ 45 ∷ 49 ∷ 32 ∷ 48 ∷ 10 ∷ [])
-unfolding textOf clausesOf beyond bars pairs joinTo only bar forbid bitsFor seek literalText literalsText clauseText headerText digits performance critical countTo anyTo leftEnd occupied taken tooMany offPerformance barred share collide trackAt connectionAt
+unfolding textOf clausesOf beyond bars pairs joinTo only bar forbid bitsFor seek literalText literalsText clauseText headerText digits performance critical countTo anyTo leftEnd occupied taken tooMany offPerformance barred share pieces net collide trackAt connectionAt
 lines-of-one = (refl, refl, refl)
 
 -- `p cnf 0 0`, and no clause

@@ -1,5 +1,6 @@
 // The marks of taken segments, one for each track and segment (document 01, "The job file": "the marks of taken segments are kept for all of them").
-// A mark is 0, or the number of the connection that took the segment. Functions that only read the marks are lent them.
+// A mark is 0, or the segment's owner: the net of the connection that took it, or that connection if it is on its own. All that are on a segment have one
+// owner. Functions that only read the marks are lent them.
 use channel::Label;
 use channel::MOST_SEGMENTS;
 use channel::MOST_TRACKS;
@@ -7,16 +8,16 @@ use occupancy::TABLE;
 use text::wide;
 ghost use mathlib.Core.Path.{_≡_};
 ghost use Prim.Native.Nat.{_+_, _≤_, _<_};
-ghost use Rattle.channel.specs.Limits.{mostTracks, mostConnections, mostSegments};
+ghost use Rattle.channel.specs.Limits.{mostTracks, mostSegments};
 ghost use Rattle.marks.specs.Marking.{markBytes, base, free, allFree, fill, fitsRun, takenRun, Among, first, last, Inside, fitsIn, takenIn};
 
 pub const MARKS: usize = MOST_TRACKS * MOST_SEGMENTS;
 
-// Whether a segment with this mark is free.
-pub fn is_free(mark: u8) -> bool
-    ensures { λ r. ⌜ r ≡ free mark ⌝ }
+// Whether a segment with this mark is free for an owner: nobody has it, or that owner.
+fn is_free(owner: u8, mark: u8) -> bool
+    ensures { λ r. ⌜ r ≡ free owner mark ⌝ }
 {
-    mark == 0
+    (mark == 0) | (mark == owner)
 }
 
 // Where the marks of the track start.
@@ -27,14 +28,14 @@ fn base_of(label: Label) -> usize
     wide(channel::code_of(label).0) * MOST_SEGMENTS
 }
 
-// Whether the n marks from at on are free.
-fn run_free(marks: &[u8; MARKS], at: usize, n: usize) -> bool
+// Whether the n marks from at on are free for an owner.
+fn run_free(owner: u8, marks: &[u8; MARKS], at: usize, n: usize) -> bool
     requires { ⌜ at + n ≤ markBytes ⌝ }
-    ensures { λ r. ⌜ r ≡ allFree (now (marks .entry)) at n ⌝ }
+    ensures { λ r. ⌜ r ≡ allFree owner (now (marks .entry)) at n ⌝ }
 {
     let mut k = 0;
     while k < n {
-        if !is_free(marks[at + k]) {
+        if !is_free(owner, marks[at + k]) {
             return false;
         }
         k += 1;
@@ -42,48 +43,43 @@ fn run_free(marks: &[u8; MARKS], at: usize, n: usize) -> bool
     true
 }
 
-// The marks with this number on the n from at on.
-fn filled(number: u8, marks: &[u8; MARKS], at: usize, n: usize) -> [u8; MARKS]
+// The marks with this owner on the n from at on.
+fn filled(owner: u8, marks: &[u8; MARKS], at: usize, n: usize) -> [u8; MARKS]
     requires { ⌜ at + n ≤ markBytes ⌝ }
-    ensures { λ r. ⌜ r ≡ fill number (now (marks .entry)) at n ⌝ }
+    ensures { λ r. ⌜ r ≡ fill owner (now (marks .entry)) at n ⌝ }
 {
     let mut next = *marks;
     let mut k = 0;
     while k < n {
-        next[at + k] = number;
+        next[at + k] = owner;
         k += 1;
     }
     next
 }
 
-// Whether a connection with this first and last segment on the track fits there beside those that are marked.
-pub fn fits_run(marks: &[u8; MARKS], label: Label, first: usize, last: usize) -> bool
+// Whether a connection of this owner, with this first and last segment on the track, fits there beside those that are marked.
+pub fn fits_run(owner: u8, marks: &[u8; MARKS], label: Label, first: usize, last: usize) -> bool
     requires { ⌜ Among (label .0) first last ⌝ }
-    ensures { λ r. ⌜ r ≡ fitsRun (now (marks .entry)) (label .0) first last ⌝ }
+    ensures { λ r. ⌜ r ≡ fitsRun owner (now (marks .entry)) (label .0) first last ⌝ }
 {
     if last < first {
         return false;
     }
-    run_free(marks, base_of(label) + first, last + 1 - first)
+    run_free(owner, marks, base_of(label) + first, last + 1 - first)
 }
 
-// The marks with those of connection i + 1 on that run.
+// The marks with its own on that run.
 pub fn taken_run(
+    owner: u8,
     marks: &[u8; MARKS],
-    i: usize,
     label: Label,
     first: usize,
     last: usize,
 ) -> [u8; MARKS]
-    requires { ⌜ (i < mostConnections) × Among (label .0) first last × (first ≤ last) ⌝ }
-    ensures { λ r. ⌜ r ≡ takenRun (now (marks .entry)) (label .0) first last i ⌝ }
+    requires { ⌜ Among (label .0) first last × (first ≤ last) ⌝ }
+    ensures { λ r. ⌜ r ≡ takenRun owner (now (marks .entry)) (label .0) first last ⌝ }
 {
-    filled(
-        (i + 1) as u8,
-        marks,
-        base_of(label) + first,
-        last + 1 - first,
-    )
+    filled(owner, marks, base_of(label) + first, last + 1 - first)
 }
 
 // Whether connection i + 1 fits on the track beside those that are marked, by the table.
@@ -94,7 +90,7 @@ pub fn fits(runs: &[u8; TABLE], marks: &[u8; MARKS], i: usize, label: Label) -> 
     let code = channel::code_of(label);
     let first = occupancy::first_in(runs, i, code);
     let last = occupancy::last_in(runs, i, code);
-    fits_run(marks, label, first, last)
+    fits_run(occupancy::owner_in(runs, i), marks, label, first, last)
 }
 
 // The marks with those of connection i + 1 on the track, by the table.
@@ -105,5 +101,5 @@ pub fn taken(runs: &[u8; TABLE], marks: &[u8; MARKS], i: usize, label: Label) ->
     let code = channel::code_of(label);
     let first = occupancy::first_in(runs, i, code);
     let last = occupancy::last_in(runs, i, code);
-    taken_run(marks, i, label, first, last)
+    taken_run(occupancy::owner_in(runs, i), marks, label, first, last)
 }

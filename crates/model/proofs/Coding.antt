@@ -10,8 +10,8 @@ use native.Mathlib.Numerals.{add-one}
 use lib.ListN.{length, getD, set}
 use lib.Seq.{getD-set-same, getD-set-other}
 use lib.Pow.{pow-mono}
+use Rattle.facts.specs.Odd.{bitOf}
 use Rattle.channel.specs.Limits.{mostBits}
-use Rattle.clauses.specs.Reading.{bitOf}
 use Rattle.clauses.proofs.Joins.{bit-le}
 use Rattle.clauses.proofs.Bits.{codeAt}
 use Rattle.model.specs.Codes.{setIn, codeFrom}

@@ -6,10 +6,10 @@ use mathlib.Core.List.{List}
 use Prim.Native.Nat.{ℕ, zero, suc, _+_, _*_, _<_}
 use lib.Dec.{eqb}
 use lib.ListN.{length, getD}
+use Rattle.facts.specs.Odd.{bitOf}
 use Rattle.channel.specs.declared.Code.{Code}
 use Rattle.channel.specs.Limits.{mostConnections}
 use Rattle.channel.specs.Label.{code}
-use Rattle.clauses.specs.Reading.{bitOf}
 
 -- the value of a variable by its mark
 abbrev pub setIn : List ℕ → ℕ → Bool

@@ -4,10 +4,10 @@
 ghost use mathlib.Core.Path.{_≡_};
 ghost use Prim.Native.Nat.{_+_, _-_, _*_, _^_, _≤_, _<_};
 ghost use lib.Dec.{eqb};
+ghost use Rattle.facts.specs.Odd.{bitOf};
 ghost use Rattle.channel.specs.Limits.{mostTracks, mostConnections, mostBits, mostValues};
 ghost use Rattle.channel.specs.Label.{code};
 ghost use Rattle.clauses.specs.Clauses.{bitsFor};
-ghost use Rattle.clauses.specs.Reading.{bitOf};
 ghost use Rattle.places.specs.Places.{placesOf};
 ghost use Rattle.places.specs.Table.{tableGrid};
 ghost use Rattle.model.specs.Codes.{codeFrom, Codes};

@@ -1,4 +1,4 @@
--- Document 01, "Numbers to hold against it": the twelve, in its order. Assumes nothing: these are definitions.
+-- Document 01, "Numbers to hold against it": the twelve, in its order; and the numbers that document 02 names. Assumes nothing: these are definitions.
 use mathlib.Core.Path.{_≡_}
 use mathlib.Core.List.{List, [], _∷_}
 use Prim.Native.Nat.{ℕ, _+_, _<_}
@@ -6,7 +6,7 @@ use lib.ListN.{length, getD}
 use Rattle.channel.specs.Channel.{Job, M, occupiedBy}
 use Rattle.channel.specs.Routing.{Routing, Routable, FirstRouting}
 use Rattle.channel.specs.Verdict.{Need}
-use Rattle.channel.specs.Worked.{track1, track2, connection, jobA, jobB, jobOne}
+use Rattle.channel.specs.Worked.{track1, track2, connection, jobA, jobB, jobBMarked, jobOne}
 use Rattle.clauses.specs.Clauses.{clauseCount}
 use Rattle.lines.specs.Lined.{lineText}
 
@@ -57,3 +57,8 @@ pub record Twelve : Type 0 where
   -- T = 1, N = 6, one segment, K = 1, connection 1–6: routing 1, need 1, lines `p cnf 1 1`, `-1 0`
   pub n12 : RoutesFirst jobOne (1 ∷ []) 1
   pub n12-lines : LinesAre jobOne (line1 ∷ line2 ∷ [])
+
+-- document 02's numbers, by request
+pub record Requested : Type 0 where
+  -- A1: job B with marks 2, 0, 2 is routed 1 2 1, with need 4
+  pub a1 : RoutesFirst (jobBMarked 2 2) (1 ∷ 2 ∷ 1 ∷ []) 4

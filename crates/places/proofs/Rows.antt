@@ -11,11 +11,11 @@ use native.Mathlib.Numerals.{add-one}
 use lib.Dec.{leb}
 use lib.ListN.{length, length-append}
 use borrow.Author.Tests.{lt-ltb, le-ltb, le-leb, lt-leb}
+use Rattle.facts.specs.Odd.{bitOf}
 use Rattle.channel.specs.Limits.{mostTracks, mostConnections, mostCodes}
 use Rattle.channel.specs.Label.{code}
 use Rattle.channel.specs.Valid.{Each}
 use Rattle.clauses.specs.Clauses.{Grid, joinTo, only, widthOf, meets, bitsFor}
-use Rattle.clauses.specs.Reading.{bitOf}
 use Rattle.clauses.proofs.Joins.{length-join, only-length, only-true, join-most, only-most, join-split, join-empty, join-cut, join-of, only-of}
 use Rattle.places.specs.declared.Place.{Place}
 use Rattle.places.specs.declared.Place.the-variants.{One, Two}

@@ -1,11 +1,11 @@
 -- Stepping stones: a grid by the table of first and last occupied segments, and its rows. `tabled-clauses` (proofs/Tabled.antt): its clauses are the job's. Assumes nothing: these are definitions.
-use mathlib.Core.Bool.{Bool}
+use mathlib.Core.Bool.{Bool, _&&_, not}
 use mathlib.Core.List.{List}
 use Prim.Native.Nat.{ℕ, _+_, _*_}
-use lib.Dec.{ltb}
+use lib.Dec.{ltb, eqb}
 use Rattle.channel.specs.Limits.{mostConnections, mostCodes}
 use Rattle.clauses.specs.Clauses.{Grid, meets}
-use Rattle.occupancy.specs.Runs.{meet, firstIn, lastIn}
+use Rattle.occupancy.specs.Runs.{meet, firstIn, lastIn, ownerIn}
 use Rattle.places.specs.declared.Place.{Place}
 use Rattle.places.specs.declared.Row.{Row}
 use Rattle.places.specs.Places.{forbidden, rowTo}
@@ -14,9 +14,9 @@ use Rattle.places.specs.Places.{forbidden, rowTo}
 abbrev pub shut : List ℕ → ℕ → ℕ → Bool
 shut runs i c = ltb (lastIn runs i c) (firstIn runs i c)
 
--- the runs of connections h + 1 and i + 1 meet there
+-- the runs of connections h + 1 and i + 1 meet there, and have two owners
 abbrev pub cross : List ℕ → ℕ → ℕ → ℕ → Bool
-cross runs h i c = meet (firstIn runs h c) (lastIn runs h c) (firstIn runs i c) (lastIn runs i c)
+cross runs h i c = meet (firstIn runs h c) (lastIn runs h c) (firstIn runs i c) (lastIn runs i c) && not (eqb (ownerIn runs h) (ownerIn runs i))
 
 -- the grid of t tracks and m connections
 abbrev pub tableGrid : List ℕ → ℕ → ℕ → Grid

@@ -63,7 +63,7 @@ fn is_shut(runs: &[u8; TABLE], i: usize, c: Code) -> bool
     occupancy::last_in(runs, i, c) < occupancy::first_in(runs, i, c)
 }
 
-// Whether a clause is due for connections h + 1 and i + 1 on the track with the code c: both runs are there, and they have a segment in common.
+// Whether a clause is due for connections h + 1 and i + 1 on the track with the code c: both runs are there, they have a segment in common, and two owners.
 fn is_due(runs: &[u8; TABLE], h: usize, i: usize, c: Code) -> bool
     requires { ⌜ (h < mostConnections) × (i < mostConnections) × (c .0 < mostTracks) ⌝ }
     ensures { λ r. ⌜ r ≡ due (now (runs .entry)) h i (c .0) ⌝ }
@@ -72,7 +72,8 @@ fn is_due(runs: &[u8; TABLE], h: usize, i: usize, c: Code) -> bool
     let e = occupancy::last_in(runs, h, c);
     let b = occupancy::first_in(runs, i, c);
     let d = occupancy::last_in(runs, i, c);
-    (h < i) & (((a <= d) & (b <= e)) & (!(e < a) & !(d < b)))
+    let apart = occupancy::owner_in(runs, h) != occupancy::owner_in(runs, i);
+    (h < i) & ((((a <= d) & (b <= e)) & apart) & (!(e < a) & !(d < b)))
 }
 
 // Whether a row behind stage 0 has a clause for the code c of a track.

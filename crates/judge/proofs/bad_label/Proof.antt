@@ -53,29 +53,35 @@ bounds-on-requires c κs =
     let k = asked (c .before) in
     (k .going .facts, c .before .before .before .before .before .before .starts .ensures, k .low, k .high, asked-connection k)
 
+owner-on-requires : tie.Need-owner-on-requires Inv-loop μ-loop
+owner-on-requires c κs = let k = asked (c .before .before .before .before) in (k .going .facts, asked-connection k)
+
 fits-run-requires : tie.Need-fits-run-requires Inv-loop μ-loop
-fits-run-requires c κs = let w = c .before in asked-among (asked (w .before .before .before .before)) (cell w)
+fits-run-requires c κs = let w = c .before .before in asked-among (asked (w .before .before .before .before)) (cell w)
 
 returns-3 : tie.Need-returns-3 Inv-loop μ-loop
 returns-3 c =
     let f = c .before in
-    let w = f .before .before in
-    asked-shut (asked (w .before .before .before .before)) (cell w) (f .fits-run .ensures) (c .if3 .taken)
+    let o = f .before .before in
+    let w = o .before in
+    asked-shut (asked (w .before .before .before .before)) (cell w) (o .owner-on .ensures) (f .fits-run .ensures) (c .if3 .taken)
 
 taken-run-requires : tie.Need-taken-run-requires Inv-loop μ-loop
 taken-run-requires c κs =
     let d = c .before in
     let f = d .before in
-    let w = f .before .before in
+    let o = f .before .before in
+    let w = o .before in
     let k = asked (w .before .before .before .before) in
-    (omega (arith, asked-connection k, k .going .facts .limits .m-high), asked-among k (cell w), asked-open k (cell w) (f .fits-run .ensures) (d .if3 .left))
+    (asked-among k (cell w), asked-open k (cell w) (o .owner-on .ensures) (f .fits-run .ensures) (d .if3 .left))
 
 loop-again : tie.Need-loop-again Inv-loop μ-loop
 loop-again c =
     let d = c .before .before in
     let f = d .before in
-    let w = f .before .before in
-    asked-on (asked (w .before .before .before .before)) (cell w) (f .fits-run .ensures) (d .if3 .left) (c .taken-run .result) (c .taken-run .ensures)
+    let o = f .before .before in
+    let w = o .before in
+    asked-on (asked (w .before .before .before .before)) (cell w) (o .owner-on .ensures) (f .fits-run .ensures) (d .if3 .left) (c .taken-run .result) (c .taken-run .ensures)
 
 returns-4 : tie.Need-returns-4 Inv-loop μ-loop
 returns-4 c = going-last (c .before .loop .inv) (c .loop-test .left)
@@ -84,5 +90,5 @@ pub bad-label-spec : {M : Type 1} → statement M
 bad-label-spec =
     tie.close (tie.spec Inv-loop μ-loop starts-requires loop-holds (λ c. search needs)
     (λ c. search needs) returns returns-2 bounds-on-requires (λ c κs. search needs)
-    (λ c κs. search needs) fits-run-requires returns-3 taken-run-requires (λ c. search needs)
+    (λ c κs. search needs) owner-on-requires fits-run-requires returns-3 taken-run-requires (λ c. search needs)
     (λ c. search needs) loop-again returns-4)

@@ -11,10 +11,10 @@ use Rattle.marks.proofs.filled.Statement.{statement}
 use Rattle.marks.proofs.filled.Tie as tie
 
 abbrev Inv-loop : tie.InvT-loop
-Inv-loop number marks at n next₀ k₀ next k = (k ≤ n) × (next ≡ fill number next₀ at k)
+Inv-loop owner marks at n next₀ k₀ next k = (k ≤ n) × (next ≡ fill owner next₀ at k)
 
 abbrev μ-loop : tie.MeasureT-loop
-μ-loop number marks at n next₀ k₀ next k = n - k
+μ-loop owner marks at n next₀ k₀ next k = n - k
 
 loop-holds : tie.Need-loop-holds Inv-loop μ-loop
 unfolding fill
@@ -24,7 +24,7 @@ loop-again : tie.Need-loop-again Inv-loop μ-loop
 loop-again c =
     let L = c .before in
     let a = L .before .before .args in
-    (omega arith, ap (λ x. set x (a .at + L .loop .k) (a .number)) (L .loop .inv .1) ∙ fill-next (a .number) (now (a .marks)) (a .at) (L .loop .k))
+    (omega arith, ap (λ x. set x (a .at + L .loop .k) (a .owner)) (L .loop .inv .1) ∙ fill-next (a .owner) (now (a .marks)) (a .at) (L .loop .k))
 
 returns : tie.Need-returns Inv-loop μ-loop
 returns c =

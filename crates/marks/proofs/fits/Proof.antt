@@ -1,4 +1,4 @@
--- `fits`: the two bytes of the table tell the run, and the run whether it is free.
+-- `fits`: the table tells the run and its owner, and the run whether it is free.
 use mathlib.Core.Path.{_≡_, ap, _∙_}
 use Prim.Native.Nat.{ℕ, _-_}
 use native.Mathlib.Omega.{arith}
@@ -28,14 +28,18 @@ first-in-requires c κs = let p = c .before .pre in (p .connection, omega (arith
 last-in-requires : tie.Need-last-in-requires
 last-in-requires c κs = let p = c .before .before .pre in (p .connection, omega (arith, code-is (c .before), p .among .label-low, p .among .label-high))
 
+owner-in-requires : tie.Need-owner-in-requires
+owner-in-requires c κs = c .before .before .before .pre .connection
+
 fits-run-requires : tie.Need-fits-run-requires
-fits-run-requires c κs = rw (first-is (c .before), last-is c) (c .before .before .before .pre .among)
+fits-run-requires c κs = let l = c .before in rw (first-is (l .before), last-is l) (l .before .before .before .pre .among)
 
 returns : tie.Need-returns
 unfolding fitsIn
 returns c =
-    let a = c .before .before .before .before .args in
-    c .fits-run .ensures ∙ (λ i. fitsRun (now (a .marks)) (a .label .0) (first-is (c .before .before) i) (last-is (c .before) i))
+    let l = c .before .before in
+    let a = l .before .before .before .args in
+    c .fits-run .ensures ∙ (λ i. fitsRun (c .before .owner-in .ensures i) (now (a .marks)) (a .label .0) (first-is (l .before) i) (last-is l i))
 
 pub fits-spec : {M : Type 1} → statement M
-fits-spec = tie.close (tie.spec code-of-requires first-in-requires last-in-requires fits-run-requires returns)
+fits-spec = tie.close (tie.spec code-of-requires first-in-requires last-in-requires owner-in-requires fits-run-requires returns)

@@ -14,7 +14,7 @@ returns : tie.Need-returns
 unfolding fitsRun
 returns c =
     let a = c .before .args in
-    λ i. not (sym (lt-ltb (a .last) (a .first) (c .if1 .taken)) i) && allFree (now (a .marks)) (base (a .label .0) + a .first) (a .last + 1 - a .first)
+    λ i. not (sym (lt-ltb (a .last) (a .first) (c .if1 .taken)) i) && allFree (a .owner) (now (a .marks)) (base (a .label .0) + a .first) (a .last + 1 - a .first)
 
 base-of-requires : tie.Need-base-of-requires
 base-of-requires c κs = let p = c .before .pre in (p .label-low, p .label-high)
@@ -33,7 +33,7 @@ unfolding fitsRun
 returns-2 c =
     let a = c .before .before .before .args in
     c .run-free .ensures
-    ∙ (λ i. not (sym (le-ltb (a .last) (a .first) (c .before .before .if1 .left)) i) && allFree (now (a .marks)) (c .before .base-of .ensures .0 i + a .first) (a .last + 1 - a .first))
+    ∙ (λ i. not (sym (le-ltb (a .last) (a .first) (c .before .before .if1 .left)) i) && allFree (a .owner) (now (a .marks)) (c .before .base-of .ensures .0 i + a .first) (a .last + 1 - a .first))
 
 pub fits-run-spec : {M : Type 1} → statement M
 fits-run-spec =

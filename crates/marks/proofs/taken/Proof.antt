@@ -1,4 +1,4 @@
--- `taken`: the two bytes of the table tell the run, and the run its marks.
+-- `taken`: the table tells the run and its owner, and the run its marks.
 use mathlib.Core.Path.{_≡_, ap, _∙_}
 use Prim.Native.Nat.{ℕ, _-_}
 use native.Mathlib.Omega.{arith}
@@ -28,14 +28,18 @@ first-in-requires c κs = let p = c .before .pre .0 in (p .connection, omega (ar
 last-in-requires : tie.Need-last-in-requires
 last-in-requires c κs = let p = c .before .before .pre .0 in (p .connection, omega (arith, code-is (c .before), p .among .label-low, p .among .label-high))
 
+owner-in-requires : tie.Need-owner-in-requires
+owner-in-requires c κs = c .before .before .before .pre .0 .connection
+
 taken-run-requires : tie.Need-taken-run-requires
-taken-run-requires c κs = let p = c .before .before .before .pre in (p .0 .connection, rw (first-is (c .before), last-is c) (p .0 .among), rw (first-is (c .before), last-is c) (p .1))
+taken-run-requires c κs = let l = c .before in let p = l .before .before .before .pre in (rw (first-is (l .before), last-is l) (p .0 .among), rw (first-is (l .before), last-is l) (p .1))
 
 returns : tie.Need-returns
 unfolding takenIn
 returns c =
-    let a = c .before .before .before .before .args in
-    c .taken-run .ensures ∙ (λ i. takenRun (now (a .marks)) (a .label .0) (first-is (c .before .before) i) (last-is (c .before) i) (a .i))
+    let l = c .before .before in
+    let a = l .before .before .before .args in
+    c .taken-run .ensures ∙ (λ i. takenRun (c .before .owner-in .ensures i) (now (a .marks)) (a .label .0) (first-is (l .before) i) (last-is l i))
 
 pub taken-spec : {M : Type 1} → statement M
-taken-spec = tie.close (tie.spec code-of-requires first-in-requires last-in-requires taken-run-requires returns)
+taken-spec = tie.close (tie.spec code-of-requires first-in-requires last-in-requires owner-in-requires taken-run-requires returns)

@@ -1,7 +1,7 @@
 -- By the test.
 use mathlib.Core.Path.{sym, ap}
 use borrow.Author.Tests.{eq-eqb, ne-eqb}
-use Rattle.clauses.specs.Reading.{bitOf}
+use Rattle.facts.specs.Odd.{bitOf}
 use Rattle.model.proofs.bit.Statement.{statement}
 use Rattle.model.proofs.bit.Tie as tie
 
