@@ -1,6 +1,6 @@
-//! A second router, written from the scope document alone, to hold the proved library against.
+//! A second router, written from the product's documents alone, to hold the proved library against.
 //!
-//! It answers every entry twice. `slow` is the document read aloud: segments are quantified over, routings are enumerated, pairs are counted,
+//! It answers every entry twice. `slow` is the documents read aloud: segments are quantified over, routings are enumerated, pairs are counted,
 //! every clause is written down and evaluated, a reply is split into lines and words. `fast` answers the same questions by other means, for jobs
 //! on which the definitions would take too long. The two share the values below and nothing else. `make` makes jobs,
 //! files and replies to ask about, from a seed.
@@ -19,7 +19,7 @@ pub struct Track {
     pub ends: Vec<u8>,
 }
 
-/// A connection: its columns and its mark byte, 1 for critical.
+/// A connection: its columns and its mark byte, which is its net's number times 2, plus 1 if it is critical.
 #[derive(Clone, Copy, Debug, PartialEq, Eq)]
 pub struct Connection {
     pub left: u8,
@@ -62,6 +62,17 @@ pub enum Replied {
 /// The routing program's budget and the most bytes that it reads.
 pub const PROGRAM_BUDGET: u32 = 1_000_000;
 pub const PROGRAM_BYTES: usize = 4096;
+
+impl Connection {
+    /// The net that it is a piece of, 1 to 127; 0 for a connection on its own.
+    pub fn net(&self) -> u8 {
+        self.mark / 2
+    }
+
+    pub fn critical(&self) -> bool {
+        self.mark % 2 == 1
+    }
+}
 
 impl Job {
     /// The job file. Fields that do not fit their bytes are cut, so that files over the limits can be made too.

@@ -16,7 +16,8 @@ fn surplus(channel: &Channel) -> usize {
 
 /// The tracks, from 0, on which two connections have a clause.
 fn colliding<'a>(channel: &'a Channel, m: usize, n: usize) -> impl Iterator<Item = usize> + 'a {
-    channel.masks(m).iter().zip(channel.masks(n)).enumerate().filter(|(_, (&a, &b))| a & b != 0).map(|(k, _)| k)
+    let tracks = if channel.apart(m, n) { channel.tracks } else { 0 };
+    channel.masks(m).iter().zip(channel.masks(n)).take(tracks).enumerate().filter(|(_, (&a, &b))| a & b != 0).map(|(k, _)| k)
 }
 
 fn barred(channel: &Channel, m: usize) -> impl Iterator<Item = usize> + '_ {

@@ -56,7 +56,7 @@ fn track(section: &mut &[u8], columns: u8) -> Option<Track> {
 /// A good connection of three bytes.
 pub fn connection(bytes: &[u8], columns: u8) -> Option<Connection> {
     match *bytes {
-        [left, right, mark @ 0..=1] if left != 0 && right >= left && columns >= right => Some(Connection { left, right, mark }),
+        [left, right, mark] if left != 0 && right >= left && columns >= right => Some(Connection { left, right, mark }),
         _ => None,
     }
 }

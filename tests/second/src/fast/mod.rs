@@ -42,13 +42,12 @@ pub fn judge(file: &[u8], labels: &[u8]) -> Result<(), Refusal> {
         return refuse(11, 0);
     }
     let channel = Channel::of(&job);
-    let mut taken = vec![0u32; channel.tracks];
+    let mut placed = vec![0u64; channel.tracks];
     for (m, &label) in labels.iter().enumerate() {
         let fits = (1..=channel.tracks).contains(&usize::from(label)) && {
             let track = usize::from(label) - 1;
-            let mask = channel.mask(m, track);
-            let free = mask != 0 && taken[track] & mask == 0;
-            taken[track] |= mask;
+            let free = channel.mask(m, track) != 0 && channel.rivals(m, track) & placed[track] == 0;
+            placed[track] |= 1 << m;
             free
         };
         if !fits {

@@ -6,7 +6,9 @@ use crate::Verdict;
 /// Tries the tracks of each connection in order, and goes back where none is left. A track that was tried is a trial.
 pub fn search(channel: &Channel, budget: u32) -> Verdict {
     let (all, tracks) = (channel.connections, channel.tracks);
-    let mut taken = vec![0u32; tracks];
+    let rivals: Vec<u64> = (0..all * tracks).map(|at| channel.rivals(at / tracks, at % tracks)).collect();
+    // placed[k]: the connections on track k, as bits.
+    let mut placed = vec![0u64; tracks];
     // tried[m]: how many tracks of connection m were tried; the last of them is its track.
     let mut tried: Vec<usize> = Vec::with_capacity(all);
     let mut trials = 0;
@@ -19,7 +21,7 @@ pub fn search(channel: &Channel, budget: u32) -> Verdict {
             tried.pop();
             match tried.last() {
                 None => return Verdict::Unroutable { trials },
-                Some(&next) => taken[next - 1] &= !channel.mask(m - 1, next - 1),
+                Some(&next) => placed[next - 1] &= !(1 << (m - 1)),
             }
             continue;
         }
@@ -28,9 +30,8 @@ pub fn search(channel: &Channel, budget: u32) -> Verdict {
         }
         trials += 1;
         tried[m] += 1;
-        let mask = channel.mask(m, k);
-        if mask != 0 && taken[k] & mask == 0 {
-            taken[k] |= mask;
+        if channel.mask(m, k) != 0 && placed[k] & rivals[m * tracks + k] == 0 {
+            placed[k] |= 1 << m;
             if tried.len() == all {
                 break;
             }

@@ -38,16 +38,26 @@ fn too_many_segments(job: &Job, track: usize, c: &Connection) -> bool {
 
 /// The connection is critical and the track is no performance track.
 fn no_performance_track(job: &Job, track: usize, c: &Connection) -> bool {
-    c.mark == 1 && !job.tracks[track - 1].performance
+    c.critical() && !job.tracks[track - 1].performance
 }
 
 pub fn barred(job: &Job, track: usize, c: &Connection) -> bool {
     too_many_segments(job, track, c) || no_performance_track(job, track, c)
 }
 
-/// Two connections collide on a track if some segment there is occupied by both.
-pub fn collide(job: &Job, track: usize, a: &Connection, b: &Connection) -> bool {
+/// Two connections share a segment of a track if it is occupied by both.
+pub fn share(job: &Job, track: usize, a: &Connection, b: &Connection) -> bool {
     segments(job, track).iter().any(|s| occupies(s, a) && occupies(s, b))
+}
+
+/// Two connections with the same net above 0 are pieces of one net.
+fn pieces_of_one_net(a: &Connection, b: &Connection) -> bool {
+    a.net() > 0 && a.net() == b.net()
+}
+
+/// Two different connections collide on a track if they share a segment there; pieces of one net never do.
+pub fn collide(job: &Job, track: usize, a: &Connection, b: &Connection) -> bool {
+    share(job, track, a, b) && !pieces_of_one_net(a, b)
 }
 
 /// A sequence of tracks for connections 1 to i is legal if no given track is barred and no two connections on one track collide.

@@ -84,7 +84,7 @@ fn bad_track(file: &[u8]) -> Option<u64> {
 fn bad_connection(file: &[u8]) -> Option<u64> {
     let columns = trailer(file).columns;
     let connections = records(&file[connections_at(file)..file.len() - 8]);
-    let bad = connections.iter().position(|c| !(1 <= c.left && c.left <= c.right && c.right <= columns && c.mark <= 1))?;
+    let bad = connections.iter().position(|c| !(1 <= c.left && c.left <= c.right && c.right <= columns))?;
     Some(bad as u64 + 1)
 }
 

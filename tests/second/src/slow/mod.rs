@@ -1,4 +1,4 @@
-//! The document read aloud. Each definition is one sentence of it, and nothing is saved for later.
+//! The documents read aloud. Each definition is one sentence of it, and nothing is saved for later.
 
 mod channel;
 mod clauses;
@@ -8,7 +8,7 @@ mod part;
 mod reply;
 mod rows;
 
-pub use channel::{barred, collide, legal, legal_upto, occupied, segments, Segment};
+pub use channel::{barred, collide, legal, legal_upto, occupied, segments, share, Segment};
 pub use clauses::{clauses, false_under, lines, width, Clause};
 pub use need::{first_routing, need, routings, Need};
 pub use part::p1_job;

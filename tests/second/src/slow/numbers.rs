@@ -1,4 +1,4 @@
-//! The document's twelve numbers and its examples, held by the definitions.
+//! The documents' numbers and examples, held by the definitions.
 
 use super::*;
 use crate::Track;
@@ -51,6 +51,36 @@ fn the_twelve_numbers() {
     let one = Job { columns: 6, limit: 1, tracks: vec![Track { performance: false, ends: vec![6] }], connections: vec![connection(1, 6)] };
     assert_eq!(need(&one), some(&[1], 1));
     assert_eq!(lines(&one), ["p cnf 1 1\n", "-1 0\n"]);
+}
+
+/// Job B with other marks.
+fn job_b_marked(marks: [u8; 3]) -> Job {
+    let mut job = job_b(2);
+    for (connection, mark) in job.connections.iter_mut().zip(marks) {
+        connection.mark = mark;
+    }
+    job
+}
+
+#[test]
+fn pieces_of_one_net_in_job_b() {
+    assert_eq!(need(&job_b_marked([2, 0, 2])), some(&[1, 2, 1], 4));
+    assert_eq!(need(&job_b_marked([254, 0, 254])), some(&[1, 2, 1], 4));
+    assert_eq!(need(&job_b_marked([2, 2, 2])), some(&[1, 1, 1], 3));
+    assert_eq!(need(&job_b_marked([2, 0, 4])), none(10));
+    assert_eq!(need(&job_b_marked([3, 0, 2])), none(2));
+    assert_eq!(lines(&job_b_marked([2, 0, 2])), ["p cnf 3 4\n", "1 2 0\n", "-1 -2 0\n", "2 3 0\n", "-2 -3 0\n"]);
+    let shared = job_b_marked([2, 0, 2]);
+    assert!(share(&shared, 1, &shared.connections[0], &shared.connections[2]));
+}
+
+#[test]
+fn every_mark_is_a_net_and_a_critical_bit() {
+    for mark in 0..=255 {
+        let connection = Connection { left: 1, right: 1, mark };
+        assert_eq!(u32::from(connection.net()) * 2 + u32::from(connection.critical()), u32::from(mark));
+        assert_eq!(read(&job_b_marked([0, mark, 0]).encode()), Ok(job_b_marked([0, mark, 0])));
+    }
 }
 
 #[test]

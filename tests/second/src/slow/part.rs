@@ -16,7 +16,7 @@ pub fn rows(connections: &[u8], limit: u32) -> Vec<Row<'_>> {
         Row::new(5, move || {
             let fine = |i: usize| {
                 let c = records(connections)[i];
-                1 <= c.left && c.left <= c.right && c.right <= P1_COLUMNS && c.mark <= 1
+                1 <= c.left && c.left <= c.right && c.right <= P1_COLUMNS
             };
             (0..connections.len() / 3).find(|&i| !fine(i)).map(|i| i as u64 + 1)
         }),
