@@ -1,20 +1,31 @@
 //! How often each answer was given by each op, and each limit met. None that can be given may stay at 0.
 
 use second::kind::kind;
+use second::make::MARKS;
 use std::collections::BTreeMap;
 use wire::Request;
 
 const OPS: [&str; 8] = ["read", "route", "judge", "line", "reply", "p1", "p1route", "program"];
 
-/// Rows of the table, and the ops that can give them.
-const ROWS: [(&str, &[&str]); 29] = [
+/// Rows of the table, and the ops that can give them. A row `nets` has the jobs in which a net above 0 occurs twice and is not among the one before it; `by nets alone`,
+/// of those, the routings in which two pieces share a segment: without the rule about nets they would not be legal.
+const ROWS: [(&str, &[&str]); 41] = [
     ("job", &["read"]),
     ("routed", &["route", "p1route", "program"]),
+    ("routed, nets", &["route", "p1route", "program"]),
+    ("routed, by nets alone", &["route", "p1route", "program"]),
     ("unroutable", &["route", "p1route", "program"]),
+    ("unroutable, nets", &["route", "p1route", "program"]),
     ("undecided", &["route", "p1route", "program"]),
+    ("undecided, nets", &["route", "p1route", "program"]),
     ("legal", &["judge"]),
+    ("legal, nets", &["judge"]),
+    ("legal, by nets alone", &["judge"]),
     ("line", &["line"]),
+    ("line, nets", &["line"]),
     ("accepted", &["reply"]),
+    ("accepted, nets", &["reply"]),
+    ("accepted, by nets alone", &["reply"]),
     ("claimed", &["reply"]),
     ("unknown", &["reply"]),
     ("file", &["p1"]),
@@ -33,11 +44,16 @@ const ROWS: [(&str, &[&str]); 29] = [
     ("refused 8, group 1", &["reply"]),
     ("refused 8, group 2", &["reply"]),
     ("refused 8, group 3", &["reply"]),
+    ("refused 8, group 3, nets", &["reply"]),
     ("refused 10", &["line"]),
+    ("refused 10, nets", &["line"]),
     ("refused 11, not M", &["judge"]),
     ("refused 11, a label", &["judge"]),
     ("refused 11, collides", &["judge"]),
+    ("refused 11, collides, nets", &["judge"]),
 ];
+/// The width of a row's name.
+const NAME: usize = 27;
 
 /// Limits on both sides: what the reader must have said of a file that has this size.
 const LIMITS: [(&str, &str); 10] = [
@@ -57,6 +73,8 @@ const LIMITS: [(&str, &str); 10] = [
 pub struct Table {
     cells: BTreeMap<(&'static str, String), u64>,
     limits: [u64; LIMITS.len()],
+    /// How often the reader took a file with a connection of each of `MARKS`.
+    marks: [u64; MARKS.len()],
 }
 
 impl Table {
@@ -74,13 +92,19 @@ impl Table {
         for (i, met) in met.into_iter().enumerate() {
             self.limits[i] += u64::from(met && answer.starts_with(LIMITS[i].1.as_bytes()));
         }
+        if answer.starts_with(b"job") {
+            let connections = second::records(&file[file.len() - 8 - 3 * usize::from(m)..file.len() - 8]);
+            for (i, mark) in MARKS.into_iter().enumerate() {
+                self.marks[i] += u64::from(connections.iter().any(|c| c.mark == mark));
+            }
+        }
     }
 
     pub fn join(&mut self, other: Table) {
         for (cell, n) in other.cells {
             *self.cells.entry(cell).or_default() += n;
         }
-        for (mine, n) in self.limits.iter_mut().zip(other.limits) {
+        for (mine, n) in self.limits.iter_mut().chain(&mut self.marks).zip(other.limits.into_iter().chain(other.marks)) {
             *mine += n;
         }
     }
@@ -88,9 +112,9 @@ impl Table {
     /// Prints the table; says how many of its cells are 0.
     pub fn print(&self) -> u64 {
         let mut empty = 0;
-        println!("{:<22}{}", "", OPS.map(|op| format!("{op:>9}")).concat());
+        println!("{:<NAME$}{}", "", OPS.map(|op| format!("{op:>9}")).concat());
         for (row, ops) in ROWS {
-            print!("{row:<22}");
+            print!("{row:<NAME$}");
             for op in OPS {
                 let n = self.cells.get(&(op, row.to_string())).copied().unwrap_or(0);
                 if ops.contains(&op) {
@@ -103,9 +127,13 @@ impl Table {
             println!();
         }
         println!("limits, by the reader:");
-        for (i, (size, answer)) in LIMITS.iter().enumerate() {
-            println!("  {size:<6} {answer:<10} {:>8}", self.limits[i]);
-            empty += u64::from(self.limits[i] == 0);
+        for ((size, answer), n) in LIMITS.iter().zip(self.limits) {
+            println!("  {size:<8} {answer:<10} {n:>8}");
+            empty += u64::from(n == 0);
+        }
+        for (mark, n) in MARKS.iter().zip(self.marks) {
+            println!("  mark {mark:<3} {:<10} {n:>8}", "job");
+            empty += u64::from(n == 0);
         }
         empty
     }

@@ -1,15 +1,28 @@
-//! Kinds of answers: every verdict, and every row of the table of replies, told apart where a row holds for more than one reason.
+//! Kinds of answers: every verdict, and every row of the table of replies, told apart where a row holds for more than one reason, and by nets.
 
 use crate::fast::{self, Channel};
+use crate::Job;
 use wire::Request;
 
-/// The kind of an answer: its word, or `refused`, the number, and what the number leaves open.
+/// Kinds that the rule about nets has a part in.
+const BY_NETS: [&str; 9] =
+    ["routed", "unroutable", "undecided", "legal", "line", "accepted", "refused 8, group 3", "refused 10", "refused 11, collides"];
+
+/// The kind of an answer: its word, or `refused`, the number, and what the number leaves open; then what its job has of nets.
 pub fn kind(request: &Request, answer: &[u8]) -> String {
     let text = match request {
         Request::Program { .. } => wire::bytes(answer).unwrap_or_default(),
         _ => answer.to_vec(),
     };
     let text = String::from_utf8_lossy(&text);
+    let kind = plain_kind(request, &text);
+    if BY_NETS.contains(&kind.as_str()) {
+        return kind + nets(request, &text).unwrap_or("");
+    }
+    kind
+}
+
+fn plain_kind(request: &Request, text: &str) -> String {
     let words: Vec<&str> = text.lines().next().unwrap_or("").split(' ').collect();
     if words[0] != "refused" || words.len() < 3 {
         return words[0].to_string();
@@ -19,6 +32,43 @@ pub fn kind(request: &Request, answer: &[u8]) -> String {
         Some(detail) => format!("refused {}, {detail}", words[1]),
         None => format!("refused {}", words[1]),
     }
+}
+
+/// Whether a net above 0 occurs twice in the job, and whether the routing that is answered, or found legal, is one by nets alone: two pieces share a segment.
+fn nets(request: &Request, text: &str) -> Option<&'static str> {
+    let job = job(request)?;
+    let mut seen = [false; 128];
+    if !job.connections.iter().any(|c| c.net() > 0 && std::mem::replace(&mut seen[usize::from(c.net())], true)) {
+        return None;
+    }
+    let labels = labels(request, text).unwrap_or_default();
+    Some(if shared(&Channel::of(&job), &labels) { ", by nets alone" } else { ", nets" })
+}
+
+/// The job that a request is about.
+fn job(request: &Request) -> Option<Job> {
+    match request {
+        Request::P1Route { connections, limit, .. } => fast::read(&fast::p1(connections, *limit, usize::MAX).ok()?).ok(),
+        _ => fast::read(file(request)?).ok(),
+    }
+}
+
+/// The labels of a legal routing, where the answer has one.
+fn labels(request: &Request, text: &str) -> Option<Vec<u8>> {
+    let (first, rest) = text.split_once('\n').unwrap_or((text, ""));
+    match (first.split(' ').collect::<Vec<_>>()[..].as_ref(), request) {
+        (["legal"], Request::Judge { labels, .. }) => Some(labels.clone()),
+        (["routed", _], _) => rest.lines().map(|row| row.split(' ').nth(1)?.parse().ok()).collect(),
+        (["routed", _, labels] | ["accepted", labels], _) => wire::bytes(labels.as_bytes()),
+        _ => None,
+    }
+}
+
+/// Whether two connections share a segment, by the labels in front.
+fn shared(channel: &Channel, labels: &[u8]) -> bool {
+    let on = |m: usize| usize::from(labels[m]) - 1;
+    let count = channel.connections.min(labels.len());
+    (0..count).any(|m| (0..m).any(|n| on(m) == on(n) && channel.mask(m, on(m)) & channel.mask(n, on(n)) != 0))
 }
 
 fn detail(request: &Request, number: &str, place: u64) -> Option<&'static str> {

@@ -1,5 +1,6 @@
 //! Jobs of every size, valid but for `over`.
 
+use super::nets::joined_bytes;
 use super::Rng;
 use crate::{Connection, Job, Track};
 
@@ -171,9 +172,14 @@ pub fn like(rng: &mut Rng, job: &Job, connections: usize, span: usize) -> Job {
     Job { connections: (0..connections).map(|_| connection(rng, &shape)).collect(), ..job.clone() }
 }
 
-/// Connection bytes for P1, valid.
+/// Connection bytes for P1, valid; in two of five as pieces of nets.
 pub fn p1_connections(rng: &mut Rng) -> Vec<u8> {
     let shape = Shape { columns: 30, tracks: 0, connections: 0, limit: 0, segments: 0, span: rng.pick(&[2, 5, 10, 30]), critical: rng.pick(&[0, 4]) };
     let count = rng.pick(&[0, 1, 2, 2, 3, 3, 4, 6, 10, 20, 40, 63, 64]);
-    (0..count).map(|_| connection(rng, &shape)).flat_map(|c| [c.left, c.right, c.mark]).collect()
+    let bytes: Vec<u8> = (0..count).map(|_| connection(rng, &shape)).flat_map(|c| [c.left, c.right, c.mark]).collect();
+    if rng.below(5) < 2 {
+        joined_bytes(rng, &bytes)
+    } else {
+        bytes
+    }
 }

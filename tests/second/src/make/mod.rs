@@ -2,12 +2,14 @@
 
 mod damage;
 mod jobs;
+mod nets;
 mod replies;
 mod requests;
 mod rng;
 
 pub use damage::damage;
 pub use jobs::{channel, edge, full, like, middle, over, p1_connections, small, stacked, Shape};
+pub use nets::{crowded, joined, packed, MARKS};
 pub use replies::{cuts, reply, spelled};
 pub use requests::{batch, Asked};
 pub use rng::Rng;

@@ -1,6 +1,6 @@
 //! Whole requests: a batch of them around one job, one part or one heap of bytes.
 
-use super::{cuts, damage, edge, full, like, middle, over, p1_connections, reply, small, stacked, Rng};
+use super::{crowded, cuts, damage, edge, full, joined, like, middle, over, p1_connections, packed, reply, small, stacked, Rng};
 use crate::fast::{self, Channel};
 use crate::protocol::Way;
 use crate::{slow, Job, Verdict};
@@ -21,30 +21,65 @@ struct Subject {
     small: bool,
 }
 
-/// The next batch. About half of all requests come from jobs small enough for the definitions.
+/// A job as it is made, or one time in three with its connections as pieces of nets.
+fn perhaps_joined(rng: &mut Rng, job: Job) -> Job {
+    if rng.once_in(3) {
+        joined(rng, job)
+    } else {
+        job
+    }
+}
+
+/// A job that is small enough for the definitions.
+fn enumerated(rng: &mut Rng) -> Job {
+    if rng.once_in(5) {
+        return crowded(rng);
+    }
+    let job = small(rng);
+    perhaps_joined(rng, job)
+}
+
+/// A job that the search decides within a moment, or does not.
+fn searched(rng: &mut Rng) -> Job {
+    let job = match rng.below(5) {
+        0 => return packed(rng),
+        _ => middle(rng),
+    };
+    perhaps_joined(rng, job)
+}
+
+/// A largest job, or nearly.
+fn largest(rng: &mut Rng) -> Job {
+    let job = if rng.once_in(3) { stacked(rng) } else { full(rng) };
+    perhaps_joined(rng, job)
+}
+
+/// The next batch. About half of all requests come from jobs small enough for the definitions, and more than half from jobs without nets.
 pub fn batch(rng: &mut Rng) -> Vec<Asked> {
     let mut out = Vec::new();
     match rng.below(1000) {
         0..=599 => {
-            let job = small(rng);
+            let job = enumerated(rng);
             about(rng, &subject(job, true, 0), &mut out);
         }
         600..=729 => {
-            let job = middle(rng);
+            let job = searched(rng);
             let cap = rng.pick(&[300, 3_000, 20_000]);
             about(rng, &subject(job, false, cap), &mut out);
         }
         730..=757 => {
-            let job = if rng.once_in(3) { stacked(rng) } else { full(rng) };
+            let job = largest(rng);
             let cap = rng.pick(&[1_000, 20_000, 20_000, 200_000]);
             about(rng, &subject(job, false, cap), &mut out);
         }
         758..=787 => {
             let job = edge(rng);
+            let job = perhaps_joined(rng, job);
             about(rng, &subject(job, false, 10_000), &mut out);
         }
         788..=827 => {
-            let file = over(rng).encode();
+            let job = over(rng);
+            let file = perhaps_joined(rng, job).encode();
             files(rng, &file, &mut out);
         }
         828..=877 => cut_replies(rng, &mut out),
@@ -152,11 +187,12 @@ fn labels(rng: &mut Rng, subject: &Subject) -> Vec<u8> {
             labels = all[rng.below(all.len())].iter().map(|&t| t as u8).collect();
         }
     }
-    match rng.below(8) {
+    match rng.below(9) {
         0 => labels.push(rng.from_to(0, tracks + 1) as u8),
         1 => drop(labels.pop()),
         2 | 3 if count > 0 => labels[rng.below(count)] = rng.from_to(1, tracks) as u8,
         4 if count > 0 => labels[rng.below(count)] = rng.pick(&[0, tracks as u8 + 1, 37, 255]),
+        5 if count > 0 => labels[rng.below(count)] = labels[rng.below(count)],
         _ => {}
     }
     labels
@@ -170,9 +206,10 @@ fn codes(rng: &mut Rng, subject: &Subject) -> Vec<usize> {
         _ => (0..count).map(|_| rng.below(subject.job.tracks.len())).collect(),
     };
     if count > 0 {
-        match rng.below(6) {
+        match rng.below(7) {
             0 => codes[rng.below(count)] = rng.below(all),
             1 => codes[rng.below(count)] = all - 1,
+            2 => codes[rng.below(count)] = codes[rng.below(count)],
             _ => {}
         }
     }
@@ -237,7 +274,7 @@ fn files(rng: &mut Rng, file: &[u8], out: &mut Vec<Asked>) {
 
 /// A reply cut at every byte.
 fn cut_replies(rng: &mut Rng, out: &mut Vec<Asked>) {
-    let job = small(rng);
+    let job = enumerated(rng);
     let subject = subject(job, true, 0);
     let text = self::text(rng, &subject);
     let labels = buffer(rng, subject.job.connections.len());
@@ -287,15 +324,15 @@ fn part(rng: &mut Rng, out: &mut Vec<Asked>) {
 /// The routing program.
 fn programs(rng: &mut Rng, out: &mut Vec<Asked>) {
     let (job, way) = match rng.below(4) {
-        0 | 1 => (small(rng), Way::Slow),
-        2 => (middle(rng), Way::Fast),
-        _ => (full(rng), Way::Fast),
+        0 | 1 => (enumerated(rng), Way::Slow),
+        2 => (searched(rng), Way::Fast),
+        _ => (largest(rng), Way::Fast),
     };
     let file = job.encode();
     ask(out, way, Request::Program { input: file.clone() });
     ask(out, Way::Fast, Request::Program { input: damage(rng, &file) });
-    let tight = like(rng, &job, 2 + job.tracks.len() / 4, 3).encode();
-    ask(out, Way::Fast, Request::Program { input: tight });
+    let tight = like(rng, &job, 2 + job.tracks.len() / 4, 3);
+    ask(out, Way::Fast, Request::Program { input: perhaps_joined(rng, tight).encode() });
     if rng.once_in(3) {
         let length = rng.pick(&[4_095, 4_096, 4_097, 4_100, 5_000]);
         ask(out, Way::Fast, Request::Program { input: padded(&file, length) });
