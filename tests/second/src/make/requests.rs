@@ -323,10 +323,14 @@ fn part(rng: &mut Rng, out: &mut Vec<Asked>) {
 
 /// The routing program.
 fn programs(rng: &mut Rng, out: &mut Vec<Asked>) {
-    let (job, way) = match rng.below(4) {
+    let (job, way) = match rng.below(5) {
         0 | 1 => (enumerated(rng), Way::Slow),
         2 => (searched(rng), Way::Fast),
-        _ => (largest(rng), Way::Fast),
+        3 => (largest(rng), Way::Fast),
+        _ => {
+            let job = if rng.once_in(2) { middle(rng) } else { full(rng) };
+            (joined(rng, job), Way::Fast)
+        }
     };
     let file = job.encode();
     ask(out, way, Request::Program { input: file.clone() });

@@ -1,4 +1,6 @@
-//! Requests whose answers are written here by hand, from the scope document: its examples, and its limits on both sides.
+//! Requests whose answers are written here by hand, from the product's documents: their examples, and the limits on both sides.
+
+mod nets;
 
 use crate::{Connection, Job, Track};
 
@@ -36,6 +38,7 @@ pub fn requests() -> Vec<(String, String)> {
     job_a(&mut all);
     replies_to_a(&mut all);
     small_jobs(&mut all);
+    nets::add_all(&mut all);
     limits(&mut all);
     part(&mut all);
     program(&mut all);
@@ -216,7 +219,6 @@ fn limits(all: &mut All) {
     add(all, format!("read {}", left_over(65_535)), "refused 4 2");
     add(all, format!("read {}", left_over(65_536)), "refused 3 0");
     add(all, format!("read {}", left_over(65_539)), "refused 3 0");
-    add(all, "read 0100060106020600030006010101", "refused 5 1");
     add(all, "read 010006ff0400000006010001", "refused 4 2");
 }
 
@@ -228,7 +230,7 @@ fn part(all: &mut All) {
     add(all, format!("p1 011e01 2 {}", "ff".repeat(61)), format!("file 61 {tracks}011e01350003001e080102"));
     add(all, "p1 01 2 -", "refused 2 0 -");
     add(all, "p1 011f00 2 -", "refused 5 1 -");
-    add(all, "p1 011e02 2 -", "refused 5 1 -");
+    add(all, "p1 011e02 2 -", "refused 9 0 -");
     for limit in ["0", "33", "256", "257", "4294967295"] {
         add(all, format!("p1 - {limit} -"), "refused 2 0 -");
         add(all, format!("p1route - {limit} 0 -"), "refused 2 0 -");
