@@ -29,7 +29,7 @@ enum Place {
     Below,
 }
 
-/// The measures of a picture in pixels, and without a routing the connections' lanes above the channel.
+/// The measures of a picture in pixels; each connection's lane, on its track or without a routing above the channel; and how many lanes each track has.
 struct Sheet {
     column: usize,
     font: usize,
@@ -37,21 +37,43 @@ struct Sheet {
     right: usize,
     top: usize,
     lanes: Vec<usize>,
+    depths: Vec<usize>,
 }
 
 impl Sheet {
     /// Columns as wide and letters as large as the screen allows: a number of two digits is never wider than two columns.
-    fn new(job: &Job, routed: bool) -> Sheet {
+    fn new(job: &Job, rows: Option<&[Row]>) -> Sheet {
         let column = (CHANNEL / usize::from(job.columns)).min(WIDEST);
         let font = (column * 10 / 7).min(1010 / job.tracks.len() / 3).clamp(10, 14);
-        let pitch = if routed { 3 * font - 2 } else { font + 6 };
+        let pitch = if rows.is_some() { 3 * font - 2 } else { font + 6 };
         let right = GUTTER + column * usize::from(job.columns);
-        let mut sheet = Sheet { column, font, pitch, right, top: HEAD + AXIS, lanes: Vec::new() };
-        if !routed {
-            sheet.lanes = lanes(&job.connections.iter().zip(1..).map(|(c, number)| sheet.extent(c, number)).collect::<Vec<_>>());
-            sheet.top += sheet.lanes.iter().max().map_or(0, |last| (last + 1) * (font + 4) + 8);
+        let (lanes, depths) = (vec![0; job.connections.len()], vec![1; job.tracks.len()]);
+        let mut sheet = Sheet { column, font, pitch, right, top: HEAD + AXIS, lanes, depths };
+        match rows {
+            Some(rows) => (1..=job.tracks.len()).for_each(|label| sheet.depths[label - 1] = sheet.stack(job, &on_track(job, rows, label))),
+            None => {
+                let all: Vec<usize> = (0..job.connections.len()).collect();
+                let depth = sheet.give_lanes(job, &all);
+                sheet.top += if all.is_empty() { 0 } else { depth * sheet.lane() + 8 };
+            }
         }
         sheet
+    }
+
+    /// Gives these connections lanes in which neither their bars nor their numbers lie over each other; says how many.
+    fn give_lanes(&mut self, job: &Job, these: &[usize]) -> usize {
+        let extents: Vec<_> = these.iter().map(|&i| self.extent(&job.connections[i], i + 1)).collect();
+        let lanes = lanes(&extents);
+        these.iter().zip(&lanes).for_each(|(&i, &lane)| self.lanes[i] = lane);
+        lanes.iter().max().map_or(1, |last| last + 1)
+    }
+
+    /// The same for the connections of a track, given from left to right, if two of them have a column in common, as pieces of one net may. Else one lane will do.
+    fn stack(&mut self, job: &Job, here: &[usize]) -> usize {
+        match here.windows(2).any(|two| job.connections[two[1]].left <= job.connections[two[0]].right) {
+            true => self.give_lanes(job, here),
+            false => 1,
+        }
     }
 
     /// The left and right edge of a run of columns, a little short so that neighbours stand apart.
@@ -75,17 +97,35 @@ impl Sheet {
         top + 1 + (self.font * 43 + 25) / 50
     }
 
-    /// The top of a track's segments, the tracks counted from 1.
-    fn segments(&self, track: usize) -> usize {
-        self.top + (track - 1) * self.pitch + (self.pitch - self.font - 2) / 2
+    /// From the top of a lane to the next.
+    fn lane(&self) -> usize {
+        self.font + 4
     }
+
+    /// The top of a track's row, the tracks counted from 1; for one behind the last, the bottom of the channel.
+    fn row(&self, track: usize) -> usize {
+        let further: usize = self.depths[..track - 1].iter().map(|depth| depth - 1).sum();
+        self.top + (track - 1) * self.pitch + further * self.lane()
+    }
+
+    /// The top of a track's segments, and their height.
+    fn segments(&self, track: usize) -> (usize, usize) {
+        (self.row(track) + (self.pitch - self.font - 2) / 2, self.depths[track - 1] * self.lane() - 2)
+    }
+}
+
+/// The connections on a track, from 0 and from left to right.
+fn on_track(job: &Job, rows: &[Row], label: usize) -> Vec<usize> {
+    let mut here: Vec<usize> = (0..rows.len()).filter(|&i| rows[i].label == label).collect();
+    here.sort_by_key(|&i| job.connections[i].left);
+    here
 }
 
 /// The picture of a job: `title` is the file's name, `verdict` what the router said, `rows` the routing if there is one.
 pub fn svg(title: &str, verdict: &str, job: &Job, rows: Option<&[Row]>) -> String {
-    let sheet = Sheet::new(job, rows.is_some());
+    let sheet = Sheet::new(job, rows);
     let (head, reach) = head(title, verdict, job);
-    let bottom = sheet.top + job.tracks.len() * sheet.pitch;
+    let bottom = sheet.row(job.tracks.len() + 1);
     let (width, height) = (reach.max(sheet.right + MARGIN), bottom + AXIS + 4);
     let mut out = format!("<?xml version=\"1.0\" encoding=\"UTF-8\"?>\n<svg width=\"{width}\" height=\"{height}\" viewBox=\"0 0 {width} {height}\"");
     out += &format!(" xmlns=\"http://www.w3.org/2000/svg\" font-family=\"Arial, Helvetica, sans-serif\" font-size=\"{}\">\n", sheet.font);
@@ -177,7 +217,7 @@ fn sample(name: &str, left: usize) -> String {
 
 /// A track: its background, its label with a P if it is a performance track, and its segments.
 fn track_row(sheet: &Sheet, number: usize, track: &Track) -> String {
-    let top = sheet.segments(number);
+    let ((top, height), row) = (sheet.segments(number), sheet.row(number));
     let (class, label, mark, kind) = match (track.performance, number % 2) {
         (true, _) => ("performance", "label mark", "P ", ", performance"),
         (false, 0) => ("even", "label", "", ""),
@@ -185,11 +225,11 @@ fn track_row(sheet: &Sheet, number: usize, track: &Track) -> String {
     };
     let ends: Vec<String> = track.ends.iter().map(u8::to_string).collect();
     let mut out = format!("<g><title>track {number}{kind}: {} segments, right ends {}</title>\n", ends.len(), ends.join(" "));
-    out += &block(class, (4, sheet.right + 6), sheet.top + (number - 1) * sheet.pitch, sheet.pitch - 1, 0.0);
+    out += &block(class, (4, sheet.right + 6), row, sheet.row(number + 1) - row - 1, 0.0);
     out += &text(label, (GUTTER - 8, GUTTER - 8), sheet.foot(top), &format!("{mark}{number}"));
     for segment in 1..=track.ends.len() {
         let (left, right) = track.columns_of(segment);
-        out += &block("segment", sheet.edges(left, right), top, sheet.font + 2, 1.0);
+        out += &block("segment", sheet.edges(left, right), top, height, 1.0);
     }
     out + "</g>\n"
 }
@@ -214,7 +254,8 @@ fn bar(sheet: &Sheet, connection: &Connection, top: usize, tooltip: &str, under:
         true => (block("critical", edges, top, sheet.font + 2, 2.0), ", critical"),
         false => (block("connection", edges, top + 1, sheet.font, 0.0), ""),
     };
-    format!("<g><title>{tooltip}{critical}</title>\n{under}{bar}{number}</g>\n")
+    let net = if connection.net() > 0 { format!(", net {}", connection.net()) } else { String::new() };
+    format!("<g><title>{tooltip}{net}{critical}</title>\n{under}{bar}{number}</g>\n")
 }
 
 /// The places of the numbers on one track, its connections given from left to right by their edges and their numbers' widths.
@@ -233,29 +274,32 @@ fn places(bars: &[((usize, usize), usize)]) -> Vec<Place> {
     bars.iter().map(place).collect()
 }
 
-/// The connections of a routing, track by track, each with its number where that stands free.
+/// The connections of a routing, track by track, each with its number where that stands free. A segment that pieces of one net share is drawn once, under the
+/// first of them, so that it covers no bar.
 fn routing(sheet: &Sheet, job: &Job, rows: &[Row]) -> String {
     let mut out = String::new();
     for label in 1..=job.tracks.len() {
-        let mut here: Vec<usize> = (0..rows.len()).filter(|&i| rows[i].label == label).collect();
-        here.sort_by_key(|&i| job.connections[i].left);
+        let here = on_track(job, rows, label);
         let bar = |&i: &usize| (sheet.edges(job.connections[i].left, job.connections[i].right), sheet.number_width(i + 1));
         let places = places(&here.iter().map(bar).collect::<Vec<_>>());
+        let mut drawn = 0;
         for (&i, &place) in here.iter().zip(&places) {
-            out += &routed(sheet, job, i, &rows[i], place);
+            out += &routed(sheet, job, i, &rows[i], drawn, place);
+            drawn = drawn.max(rows[i].last);
         }
     }
     out
 }
 
-/// A connection on its track, over the segments that it occupies.
-fn routed(sheet: &Sheet, job: &Job, i: usize, row: &Row, place: Place) -> String {
-    let (connection, track, top) = (&job.connections[i], &job.tracks[row.label - 1], sheet.segments(row.label));
+/// A connection on its track, over the segments that it occupies; those up to `drawn` are there already.
+fn routed(sheet: &Sheet, job: &Job, i: usize, row: &Row, drawn: usize, place: Place) -> String {
+    let (connection, track, (top, height)) = (&job.connections[i], &job.tracks[row.label - 1], sheet.segments(row.label));
     let Connection { left, right, .. } = *connection;
     let tooltip = format!("connection {}: columns {left}-{right}, track {}, segments {}-{}", i + 1, row.label, row.first, row.last);
-    let segment = |segment| block("occupied", sheet.edges(track.columns_of(segment).0, track.columns_of(segment).1), top, sheet.font + 2, 1.0);
-    let under: String = (row.first..=row.last).map(segment).collect();
+    let segment = |segment| block("occupied", sheet.edges(track.columns_of(segment).0, track.columns_of(segment).1), top, height, 1.0);
+    let under: String = (row.first.max(drawn + 1)..=row.last).map(segment).collect();
     let (class, foot) = match place {
+        _ if sheet.depths[row.label - 1] > 1 => return in_lane(sheet, connection, i, top, &tooltip, &under),
         Place::Inside => ("inside", sheet.foot(top)),
         Place::Above => ("outside", top - 1),
         Place::Below => ("outside", top + sheet.font + 3 + sheet.font * 2 / 3),
@@ -263,7 +307,18 @@ fn routed(sheet: &Sheet, job: &Job, i: usize, row: &Row, place: Place) -> String
     bar(sheet, connection, top, &tooltip, &under, &text(class, sheet.edges(left, right), foot, &(i + 1).to_string()))
 }
 
-/// The lanes above the channel, from 0, of bars given by their edges: for each the first that is free there.
+/// A connection in its lane, its number in its bar, or right of that if the bar is too short. `top` is that of the first lane.
+fn in_lane(sheet: &Sheet, connection: &Connection, i: usize, top: usize, tooltip: &str, under: &str) -> String {
+    let (number, top) = (i + 1, top + sheet.lanes[i] * sheet.lane());
+    let edges = sheet.edges(connection.left, connection.right);
+    let (class, place) = match fits(edges, sheet.number_width(number)) {
+        true => ("inside", edges),
+        false => ("beside", (edges.1 + 2, edges.1 + 2)),
+    };
+    bar(sheet, connection, top, tooltip, under, &text(class, place, sheet.foot(top), &number.to_string()))
+}
+
+/// The lanes, from 0, of bars given by their edges: for each the first that is free there.
 fn lanes(bars: &[(usize, usize)]) -> Vec<usize> {
     let mut order: Vec<usize> = (0..bars.len()).collect();
     order.sort_by_key(|&i| bars[i]);
@@ -282,14 +337,8 @@ fn waiting(sheet: &Sheet, job: &Job) -> String {
         out += &text("axis label", (GUTTER - 8, GUTTER - 8), sheet.foot(HEAD + AXIS + 1), "to route");
     }
     for (i, connection) in job.connections.iter().enumerate() {
-        let (number, top) = (i + 1, HEAD + AXIS + sheet.lanes[i] * (sheet.font + 4) + 1);
-        let edges = sheet.edges(connection.left, connection.right);
-        let (class, place) = match fits(edges, sheet.number_width(number)) {
-            true => ("inside", edges),
-            false => ("beside", (edges.1 + 2, edges.1 + 2)),
-        };
-        let tooltip = format!("connection {number}: columns {}-{}", connection.left, connection.right);
-        out += &bar(sheet, connection, top, &tooltip, "", &text(class, place, sheet.foot(top), &number.to_string()));
+        let tooltip = format!("connection {}: columns {}-{}", i + 1, connection.left, connection.right);
+        out += &in_lane(sheet, connection, i, HEAD + AXIS + 1, &tooltip, "");
     }
     out
 }
@@ -297,6 +346,8 @@ fn waiting(sheet: &Sheet, job: &Job) -> String {
 #[cfg(test)]
 mod tests {
     use super::*;
+    use crate::{tell, view};
+    use second::make::{crowded, full, joined, packed, Rng};
 
     fn job(columns: u8, ends: Vec<u8>) -> Job {
         let connections = ends.iter().map(|&end| Connection { left: end, right: end, mark: end % 2 }).collect();
@@ -323,6 +374,65 @@ mod tests {
         }
     }
 
+    /// The rectangles of these classes in the order drawn: class, edges across, edges down.
+    fn blocks<'a>(picture: &'a str, classes: &[&str]) -> Vec<(&'a str, [f64; 2], [f64; 2])> {
+        let value = |field: &str| field.split('=').nth(1).unwrap().trim_end_matches("/>").trim_matches('"').parse().unwrap();
+        let block = |line: &'a str| {
+            let (class, rest) = line.strip_prefix("<rect class=\"")?.split_once("\" ")?;
+            let [x, y, width, height]: [f64; 4] = rest.split(' ').map(value).collect::<Vec<_>>().try_into().unwrap();
+            classes.contains(&class).then_some((class, [x, x + width], [y, y + height]))
+        };
+        picture.lines().filter_map(block).collect()
+    }
+
+    /// The picture of a routed job behind its legend, and the most lanes of a track; nothing if it is not routed.
+    fn drawn(job: &second::Job) -> Option<(String, usize)> {
+        let file = job.encode();
+        let (job, rows) = (view::Job::read(&file).unwrap(), view::rows(&tell::routed(&file, 20_000).unwrap().1?));
+        let picture = svg("", "", &job, Some(&rows));
+        Some((picture[picture.find("<g>").unwrap()..].to_string(), *Sheet::new(&job, Some(&rows)).depths.iter().max().unwrap()))
+    }
+
+    #[test]
+    fn no_bar_is_covered() {
+        let mut rng = Rng::new(8);
+        let mut stacked = 0;
+        for i in 0..600 {
+            let job = match i % 3 {
+                0 => crowded(&mut rng),
+                1 => packed(&mut rng),
+                _ => full(&mut rng),
+            };
+            let job = joined(&mut rng, job);
+            let Some((picture, lanes)) = drawn(&job) else { continue };
+            let blocks = blocks(&picture, &["occupied", "connection", "critical"]);
+            let bars = blocks.iter().filter(|(class, ..)| *class != "occupied").count();
+            assert_eq!(bars, job.connections.len());
+            let meet = |a: [f64; 2], b: [f64; 2]| a[0] < b[1] && b[0] < a[1];
+            for (n, (_, across, down)) in blocks.iter().enumerate().filter(|(_, (class, ..))| *class != "occupied") {
+                assert!(blocks[n + 1..].iter().all(|later| !(meet(*across, later.1) && meet(*down, later.2))), "{job:?}");
+            }
+            assert!((1..=bars).all(|number| picture.contains(&format!(">{number}</text>\n</g>"))));
+            stacked += usize::from(lanes > 1);
+        }
+        assert!(stacked > 100, "{stacked}");
+    }
+
+    #[test]
+    fn pieces_over_each_other_have_lanes_and_their_net() {
+        let connections = [(1, 3, 14), (2, 2, 15), (2, 4, 14), (6, 6, 0)].map(|(left, right, mark)| Connection { left, right, mark });
+        let job = Job { columns: 6, limit: 2, tracks: vec![Track { performance: true, ends: vec![4, 6] }], connections: connections.into() };
+        let rows = [1, 1, 1, 2].map(|segment| Row { label: 1, first: segment, last: segment });
+        let sheet = Sheet::new(&job, Some(&rows));
+        assert_eq!((&sheet.lanes[..], &sheet.depths[..]), (&[0, 1, 2, 0][..], &[3][..]));
+        let picture = svg("", "", &job, Some(&rows));
+        assert!(picture.contains("<title>connection 1: columns 1-3, track 1, segments 1-1, net 7</title>"));
+        assert!(picture.contains("<title>connection 2: columns 2-2, track 1, segments 1-1, net 7, critical</title>"));
+        assert!(picture.contains("<title>connection 4: columns 6-6, track 1, segments 2-2</title>"));
+        let shared = picture[picture.find("<g>").unwrap()..].matches("class=\"occupied\"").count();
+        assert_eq!(shared, 2, "a segment is drawn once");
+    }
+
     #[test]
     fn lanes_never_overlap() {
         let bars: Vec<(usize, usize)> = (0..64).map(|i| (54 + i * 37 % 200, 55 + i * 37 % 200 + i * 11 % 60)).collect();
@@ -335,7 +445,7 @@ mod tests {
     #[test]
     fn numbers_of_neighbours_never_overlap() {
         for columns in 1..=255 {
-            let sheet = Sheet::new(&job(columns, vec![columns]), true);
+            let sheet = Sheet::new(&job(columns, vec![columns]), Some(&[]));
             let bars: Vec<_> = (1..=columns).map(|column| (sheet.edges(column, column), sheet.number_width(usize::from(column % 64)))).collect();
             for side in [Place::Above, Place::Below] {
                 let here = bars.iter().zip(places(&bars)).filter(|(_, place)| *place == side);

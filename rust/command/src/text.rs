@@ -7,9 +7,11 @@
 //! track 2 6 performance
 //! connection 1 2             # its left and right column
 //! connection 3 5 critical
+//! connection 4 6 net 7       # a piece of net 7, one of 1 to 127
+//! connection 4 4 net 7 critical
 //! ```
 //!
-//! Tracks and connections are numbered in the order of their lines.
+//! Tracks and connections are numbered in the order of their lines. `critical` may also stand before `net`.
 
 use crate::status::{Failure, Status};
 use crate::streams::{self, Output};
@@ -27,8 +29,9 @@ fn written(job: &Job) -> String {
         lines.push(format!("track{ends}{performance} # track {}", i + 1));
     }
     for (i, connection) in job.connections.iter().enumerate() {
+        let net = if connection.net() > 0 { format!(" net {}", connection.net()) } else { String::new() };
         let critical = if connection.critical() { " critical" } else { "" };
-        lines.push(format!("connection {} {}{critical} # connection {}", connection.left, connection.right, i + 1));
+        lines.push(format!("connection {} {}{net}{critical} # connection {}", connection.left, connection.right, i + 1));
     }
     lines.join("\n") + "\n"
 }
@@ -51,8 +54,9 @@ impl Lines {
             ["limit", k] => self.limit.push(byte(k)?),
             ["track", ends @ .., "performance"] => self.tracks.push(Track { performance: true, ends: bytes(ends)? }),
             ["track", ends @ ..] => self.tracks.push(Track { performance: false, ends: bytes(ends)? }),
-            ["connection", left, right] => self.connections.push(Connection { left: byte(left)?, right: byte(right)?, mark: 0 }),
-            ["connection", left, right, "critical"] => self.connections.push(Connection { left: byte(left)?, right: byte(right)?, mark: 1 }),
+            ["connection", left, right, marked @ ..] => {
+                self.connections.push(Connection { left: byte(left)?, right: byte(right)?, mark: mark(marked)? });
+            }
             _ => return None,
         }
         Some(())
@@ -75,6 +79,18 @@ fn byte(word: &str) -> Option<u8> {
 
 fn bytes(words: &[&str]) -> Option<Vec<u8>> {
     words.iter().map(|word| byte(word)).collect()
+}
+
+/// The mark of what stands behind a connection's columns.
+fn mark(words: &[&str]) -> Option<u8> {
+    let net = |word| byte(word).filter(|net| (1..=127).contains(net));
+    match words {
+        [] => Some(0),
+        ["critical"] => Some(1),
+        ["net", n] => Some(net(n)? * 2),
+        ["net", n, "critical"] | ["critical", "net", n] => Some(net(n)? * 2 + 1),
+        _ => None,
+    }
 }
 
 /// A size as the byte that the file has for it.
@@ -157,14 +173,15 @@ pub fn p1(words: &[OsString], out: &mut Output) -> Result<Status, Failure> {
 #[cfg(test)]
 mod tests {
     use super::*;
-    use second::make::{edge, full, middle, small, Rng};
+    use second::make::{edge, full, joined, middle, small, Rng};
 
     #[test]
     fn show_and_job_are_inverse() {
         let mut rng = Rng::new(5);
         for make in [small, middle, full, edge] {
-            for _ in 0..500 {
-                let file = make(&mut rng).encode();
+            for i in 0..500 {
+                let job = make(&mut rng);
+                let file = if i % 2 == 0 { joined(&mut rng, job) } else { job }.encode();
                 let text = written(&Job::read(&file).unwrap());
                 assert_eq!(encoded(&Lines::read(text.as_bytes()).unwrap()).unwrap(), file);
             }
@@ -172,9 +189,29 @@ mod tests {
     }
 
     #[test]
+    fn a_mark_is_a_net_and_critical() {
+        let connections = |text: &str| records(&Lines::read(text.as_bytes()).unwrap().connections);
+        for (line, mark) in [
+            ("connection 1 2", 0),
+            ("connection 1 2 critical", 1),
+            ("connection 1 2 net 1", 2),
+            ("connection 1 2 net 1 critical", 3),
+            ("connection 1 2 net 127", 254),
+            ("connection 1 2 net 127 critical", 255),
+        ] {
+            assert_eq!(connections(line), [1, 2, mark]);
+            let job = Job { columns: 6, limit: 2, tracks: vec![], connections: vec![Connection { left: 1, right: 2, mark }] };
+            assert!(written(&job).ends_with(&format!("{line} # connection 1\n")));
+        }
+        assert_eq!(connections("connection 1 2 critical net 127"), [1, 2, 255]);
+    }
+
+    #[test]
     fn what_is_no_line_of_a_job_is_named_by_its_number() {
-        for line in ["track 3 256", "connection 1", "connection 1 2 3", "columns +6", "limit", "row 1 2", "connection 1 2 performance"] {
-            let failure = Lines::read(format!("columns 6 # six\n\n{line}\n").as_bytes()).err().expect(line).to_string();
+        let columns = ["track 3 256", "connection 1", "connection 1 2 3", "columns +6", "limit", "row 1 2", "connection 1 2 performance"];
+        let nets = ["net", "net 0", "net 128", "net -1", "net 1 2", "7", "net critical", "critical net", "net 1 net 1", "net 1 critical critical"];
+        for line in columns.map(String::from).into_iter().chain(nets.map(|words| format!("connection 1 2 {words}"))) {
+            let failure = Lines::read(format!("columns 6 # six\n\n{line}\n").as_bytes()).err().expect(&line).to_string();
             assert_eq!(failure, format!("line 3, `{line}`, is no line of a job"));
         }
     }

@@ -8,7 +8,7 @@ pub struct Track {
     pub ends: Vec<u8>,
 }
 
-/// A connection's columns and its mark.
+/// A connection's columns and its mark: its net's number times 2, plus 1 if it is critical.
 pub struct Connection {
     pub left: u8,
     pub right: u8,
@@ -30,8 +30,13 @@ pub struct Row {
 }
 
 impl Connection {
+    /// The net that it is a piece of, 1 to 127; 0 for a connection on its own.
+    pub fn net(&self) -> u8 {
+        self.mark / 2
+    }
+
     pub fn critical(&self) -> bool {
-        self.mark == 1
+        self.mark % 2 == 1
     }
 }
 
