@@ -81,7 +81,8 @@ typedef struct {
     uint64_t length;
 } SilienvoJob;
 
-/* A connection of the editor: mark 0 plain, 1 critical. */
+/* A connection of the editor. mark: its net's number times 2, plus 1 if it is critical; every byte is a mark. Net 0 is a connection on its own, 1-127 name a net:
+ * connections with the same net above 0 are pieces of one net and may share segments. Which of them are critical is each piece's own. */
 typedef struct {
     uint8_t left;
     uint8_t right;
@@ -115,7 +116,7 @@ SilienvoAnswer silienvo_line(const uint8_t *file, size_t file_length, uint64_t n
  * which is never turned into Unroutable. SILIENVO_UNKNOWN: it says UNKNOWN. Only Accepted writes. A reply that was cut anywhere is refused or answered the same; an empty reply is refused by 6, place 0. */
 SilienvoAnswer silienvo_reply(const uint8_t *file, size_t file_length, const uint8_t *text, size_t text_length, uint8_t *labels, size_t labels_length);
 
-/* Writes the job file of house part P1 with these connections, three bytes each (left, right, mark), and the limit K. Rows 2, 5, 9.
+/* Writes the job file of house part P1 with these connections, three bytes each (left, right, and mark as above), and the limit K. Rows 2, 5, 9.
  * kind SILIENVO_WRITTEN: value is the file's length. The reader gives the same values back. */
 SilienvoAnswer silienvo_p1_write(const uint8_t *connections, size_t connections_length, uint32_t limit, uint8_t *buffer, size_t buffer_length);
 

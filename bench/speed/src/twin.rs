@@ -4,11 +4,13 @@
 
 #![forbid(unsafe_code)]
 
-/// One mark for each track and segment: 0, or the number of the connection that took it.
+/// One mark for each track and segment: 0, or the owner byte of the connection that took it.
 type Marks = [u8; TRACKS * SEGMENTS];
 const TRACKS: usize = 36;
 const SEGMENTS: usize = 32;
 const CONNECTIONS: usize = 64;
+/// The last number of a net.
+const NETS: u8 = 127;
 
 /// A job file that was found good, and where its connections start.
 struct Job<'a> {
@@ -21,6 +23,20 @@ struct Job<'a> {
     starts: [usize; TRACKS],
 }
 
+impl Job<'_> {
+    fn mark(&self, i: usize) -> u8 {
+        self.file[self.connections_at + 3 * i + 2]
+    }
+
+    /// The owner byte of connection i: its net if it is a piece of one, else a byte of its own behind the last net.
+    fn owner(&self, i: usize) -> u8 {
+        match self.mark(i) / 2 {
+            0 => NETS + 1 + i as u8,
+            net => net,
+        }
+    }
+}
+
 /// The first and the last segment, from 0, that connection i occupies on a track; nothing where the track is barred for it.
 trait Occupancy {
     fn run(&self, job: &Job, i: usize, track: usize) -> Option<(usize, usize)>;
@@ -31,7 +47,7 @@ struct Walked;
 impl Occupancy for Walked {
     fn run(&self, job: &Job, i: usize, track: usize) -> Option<(usize, usize)> {
         let at = job.connections_at + 3 * i;
-        let (left, right, critical) = (job.file[at], job.file[at + 1], job.file[at + 2] == 1);
+        let (left, right, critical) = (job.file[at], job.file[at + 1], job.mark(i) % 2 == 1);
         let record = job.starts[track];
         let ends = &job.file[record + 2..record + 2 + usize::from(job.file[record])];
         let (first, last) = occupied(ends, left, right);
@@ -119,7 +135,7 @@ fn read(file: &[u8]) -> Option<Job<'_>> {
         *start = record;
         record += good_track(&file[record..connections_at], columns)?;
     }
-    let good = file[connections_at..trailer].chunks_exact(3).all(|c| 1 <= c[0] && c[0] <= c[1] && c[1] <= columns && c[2] <= 1);
+    let good = file[connections_at..trailer].chunks_exact(3).all(|c| 1 <= c[0] && c[0] <= c[1] && c[1] <= columns);
     (good && record == connections_at).then(|| Job {
         file,
         connections_at,
@@ -154,14 +170,15 @@ fn place_connection(job: &Job, occupancy: &impl Occupancy, i: usize, marks: Mark
 
 /// Tries the tracks of connection i in order; a track that fits leads on to placing the next.
 fn try_tracks_from(job: &Job, occupancy: &impl Occupancy, i: usize, marks: Marks, mut budget: u32, labels: &mut [u8]) -> (Found, u32) {
+    let owner = job.owner(i);
     for track in 0..job.tracks {
         if budget == 0 {
             return (Found::BudgetSpent, 0);
         }
         budget -= 1;
         let Some((first, last)) = occupancy.run(job, i, track) else { continue };
-        if free(&marks, track, first, last) {
-            let (found, rest) = place_connection(job, occupancy, i + 1, taken(marks, track, first, last, i), budget, labels);
+        if free(&marks, track, first, last, owner) {
+            let (found, rest) = place_connection(job, occupancy, i + 1, taken(marks, track, first, last, owner), budget, labels);
             budget = rest;
             if found == Found::Routing {
                 labels[i] = track as u8 + 1;
@@ -187,11 +204,48 @@ fn occupied(ends: &[u8], left: u8, right: u8) -> (usize, usize) {
     (first, last)
 }
 
-fn free(marks: &Marks, track: usize, first: usize, last: usize) -> bool {
-    marks[track * SEGMENTS + first..=track * SEGMENTS + last].iter().all(|&mark| mark == 0)
+/// Whether nobody took the run, or only the owner.
+fn free(marks: &Marks, track: usize, first: usize, last: usize, owner: u8) -> bool {
+    marks[track * SEGMENTS + first..=track * SEGMENTS + last].iter().all(|&mark| mark == 0 || mark == owner)
 }
 
-fn taken(mut marks: Marks, track: usize, first: usize, last: usize, i: usize) -> Marks {
-    marks[track * SEGMENTS + first..=track * SEGMENTS + last].fill(i as u8 + 1);
+fn taken(mut marks: Marks, track: usize, first: usize, last: usize, owner: u8) -> Marks {
+    marks[track * SEGMENTS + first..=track * SEGMENTS + last].fill(owner);
     marks
+}
+
+#[cfg(test)]
+mod tests {
+    use super::*;
+    use second::make::{crowded, edge, joined, middle, packed, Rng};
+    use second::{fast, Verdict as Expected};
+
+    #[test]
+    fn both_route_as_the_second_router() {
+        let mut rng = Rng::new(9);
+        for i in 0..2_000 {
+            let job = match i % 5 {
+                0 => crowded(&mut rng),
+                1 => packed(&mut rng),
+                2 => middle(&mut rng),
+                _ => {
+                    let job = edge(&mut rng);
+                    joined(&mut rng, job)
+                }
+            };
+            let (file, mut expected) = (job.encode(), [0; CONNECTIONS]);
+            let verdict = match fast::route(&file, 3_000, CONNECTIONS).unwrap() {
+                Expected::Routed { labels, trials } => {
+                    expected[..labels.len()].copy_from_slice(&labels);
+                    Verdict::Routed(trials)
+                }
+                Expected::Unroutable { trials } => Verdict::Unroutable(trials),
+                Expected::Undecided { trials } => Verdict::Undecided(trials),
+            };
+            for route in [twin, plain] {
+                let mut labels = [0; CONNECTIONS];
+                assert_eq!((route(&file, 3_000, &mut labels), labels), (Some(verdict), expected), "{job:?}");
+            }
+        }
+    }
 }

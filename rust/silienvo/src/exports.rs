@@ -22,7 +22,7 @@ pub struct SilienvoJob {
     pub length: u64,
 }
 
-/// A connection as the editor has it.
+/// A connection as the editor has it. Its mark is its net's number times 2, plus 1 if it is critical; net 0 is a connection on its own, 1 to 127 name a net.
 #[repr(C)]
 #[derive(Clone, Copy, Debug, PartialEq, Eq)]
 pub struct SilienvoConnection {

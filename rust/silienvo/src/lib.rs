@@ -96,7 +96,7 @@ pub fn reply(file: &[u8], text: &[u8], labels: &mut [u8]) -> Result<Replied, Ref
     })
 }
 
-/// Writes the job file of house part P1; says its length.
+/// Writes the job file of house part P1 with these connections, three bytes each (left, right, mark); says its length.
 pub fn p1_write(connections: &[u8], limit: u32, buffer: &mut [u8]) -> Result<u64, Refusal> {
     let answer = unsafe { exports::silienvo_p1_write(connections.as_ptr(), connections.len(), limit, buffer.as_mut_ptr(), buffer.len()) };
     only(answer)

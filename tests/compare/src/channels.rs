@@ -1,6 +1,6 @@
-//! Channels for the solvers: the sizes of the source paper's Table 1, the largest channel, and small ones.
+//! Channels for the solvers: the sizes of the source paper's Table 1, the largest channel, and small ones; each kind with nets too.
 
-use second::make::{channel, full, middle, small, Rng, Shape};
+use second::make::{channel, crowded, full, joined, middle, packed, small, Rng, Shape};
 use second::{Connection, Job};
 
 pub struct Channel {
@@ -49,6 +49,13 @@ fn blocked(mut job: Job) -> Job {
     job
 }
 
+/// A third of the tracks, and the connections as pieces of nets.
+fn nets(rng: &mut Rng, columns: usize, connections: usize, tracks: usize) -> Job {
+    let shape = Shape { columns, tracks: tracks.div_ceil(3), connections, limit: 4, segments: 8, span: columns / 3, critical: 8 };
+    let job = channel(rng, &shape);
+    joined(rng, job)
+}
+
 /// All channels of a seed.
 pub fn channels(seed: u64) -> Vec<Channel> {
     let mut rng = Rng::new(seed);
@@ -60,6 +67,7 @@ pub fn channels(seed: u64) -> Vec<Channel> {
         }
         let shape = Shape { columns, tracks, connections, limit: 4, segments: 8, span: columns / 3, critical: 0 };
         all.push(of(format!("Table 1, row {}, blocked", row + 1), blocked(channel(&mut rng, &shape))));
+        all.push(of(format!("Table 1, row {}, nets", row + 1), nets(&mut rng, columns, connections, tracks)));
     }
     for (name, limit, segments, span, critical) in [
         ("largest, short", 32, 32, 20, 0),
@@ -69,13 +77,17 @@ pub fn channels(seed: u64) -> Vec<Channel> {
     ] {
         let shape = Shape { columns: 255, tracks: 36, connections: 64, limit, segments, span, critical };
         all.push(of(name.to_string(), channel(&mut rng, &shape)));
+        let job = channel(&mut rng, &shape);
+        all.push(of(format!("{name}, nets"), joined(&mut rng, job)));
     }
     for (n, tracks) in [0, 1, 1, 2].into_iter().zip([3, 1, 2, 1]) {
         let shape = Shape { columns: 6, tracks, connections: n, limit: 2, segments: 3, span: 6, critical: 0 };
         all.push(of(format!("{n} on {tracks}"), channel(&mut rng, &shape)));
     }
     all.extend((1..=40).map(|n| of(format!("small {n}"), small(&mut rng))));
+    all.extend((1..=40).map(|n| of(format!("crowded {n}"), crowded(&mut rng))));
     all.extend((1..=30).map(|n| of(format!("middle {n}"), middle(&mut rng))));
+    all.extend((1..=30).map(|n| of(format!("packed {n}"), packed(&mut rng))));
     all.extend((1..=2).map(|n| of(format!("full {n}"), full(&mut rng))));
     all
 }

@@ -4,7 +4,7 @@
 use crate::checks::Checks;
 use crate::shell::{Ended, Shell};
 use second::fast::{self, Channel};
-use second::make::{channel, full, middle, small, spelled, Rng, Shape};
+use second::make::{channel, full, joined, middle, small, spelled, Rng, Shape};
 use second::{Job, Verdict};
 use std::io;
 
@@ -21,11 +21,16 @@ struct Asked {
 
 fn generated(rng: &mut Rng, i: usize) -> Job {
     let shape = Shape { columns: 30, tracks: 5, connections: 9, limit: 2, segments: 5, span: 12, critical: 0 };
-    match i % 4 {
+    let job = match i % 4 {
         0 => small(rng),
         1 => middle(rng),
         2 => channel(rng, &shape),
         _ => full(rng),
+    };
+    if rng.once_in(3) {
+        joined(rng, job)
+    } else {
+        job
     }
 }
 

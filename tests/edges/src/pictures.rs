@@ -40,6 +40,7 @@ pub fn run(shell: &Shell, checks: &mut Checks) -> io::Result<()> {
         ("undecided.job", 2, 64, "undecided, 1000000 trials"),
         ("full.job", 0, 64, "routed, 803 trials"),
         ("none.job", 0, 0, "routed, 0 trials"),
+        ("net-127.job", 0, 3, "routed, 4 trials"),
     ] {
         let ended = shell.command(&["draw", file], b"")?;
         let text = ended.text();

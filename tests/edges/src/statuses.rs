@@ -8,7 +8,7 @@ use std::io;
 const A: &str = "routed 4\n1 1 1 1\n2 2 2 2\n3 1 2 2\n";
 
 /// A line, its status, and all of its standard output.
-const LINES: [(&str, i32, &str); 80] = [
+const LINES: [(&str, i32, &str); 91] = [
     ("./route < examples/a.job", 0, A),
     ("./route < examples/b.job", 1, "unroutable 10\n"),
     ("./route < undecided.job", 2, "undecided 1000000\n"),
@@ -76,6 +76,17 @@ const LINES: [(&str, i32, &str); 80] = [
     ("printf 'track 30\\n' | ./silienvo p1 3", 4, ""),
     ("./silienvo show examples/a.job", 0, "columns 6 # N\nlimit 2 # K\ntrack 3 6 # track 1\ntrack 2 6 # track 2\nconnection 1 2 # connection 1\nconnection 3 5 # connection 2\nconnection 4 6 # connection 3\n"),
     ("./silienvo show examples/a.job | ./silienvo job | cmp - examples/a.job", 0, ""),
+    ("./silienvo route net-127.job", 0, "routed 4\n1 1 1 2\n2 2 2 2\n3 1 2 2\n"),
+    ("./route < net-127.job", 0, "routed 4\n1 1 1 2\n2 2 2 2\n3 1 2 2\n"),
+    ("./silienvo judge net-127.job 1,2,1", 0, "legal\n"),
+    ("./silienvo judge net-127.job 1,1,1", 3, "refused 11 2\n"),
+    ("./silienvo clauses net-127.job", 0, "p cnf 3 4\n1 2 0\n-1 -2 0\n2 3 0\n-2 -3 0\n"),
+    ("./silienvo show net-127.job", 0, "columns 6 # N\nlimit 2 # K\ntrack 3 6 performance # track 1\ntrack 2 6 # track 2\nconnection 3 5 net 127 critical # connection 1\nconnection 4 6 # connection 2\nconnection 4 4 net 127 # connection 3\n"),
+    ("./silienvo show net-127.job | ./silienvo job | cmp - net-127.job", 0, ""),
+    ("printf 'connection 1 5 net 3 critical\\nconnection 1 5 critical net 3\\n' | ./silienvo p1 1 > p1-nets.job && ./silienvo route p1-nets.job", 0, "routed 14\n1 7 1 1\n2 7 1 1\n"),
+    ("printf 'connection 1 12 net 0\\n' | ./silienvo p1 3", 4, ""),
+    ("printf 'connection 1 12 net 128\\n' | ./silienvo p1 3", 4, ""),
+    ("printf 'connection 1 12 net\\n' | ./silienvo p1 3", 4, ""),
     ("./silienvo show cut.job", 3, "refused 3 0\n"),
     ("./silienvo show .", 4, ""),
     ("printf 'columns 6\\nlimit 2\\ntrack 3 5\\n' | ./silienvo job", 3, "refused 4 1\n"),
@@ -111,6 +122,8 @@ fn prepare(shell: &Shell) -> io::Result<()> {
     shell.write("full.job", &file(&short, 4))?;
     let a = std::fs::read(shell.root.join("examples/a.job"))?;
     shell.write("cut.job", &a[1..])?;
+    // Job B with the first track as a performance track, and its first and its last connection as pieces of net 127, the first critical.
+    shell.write("net-127.job", &[2, 1, 3, 6, 2, 0, 2, 6, 3, 5, 255, 4, 6, 0, 4, 4, 254, 17, 0, 9, 0, 6, 2, 3, 2])?;
     shell.write("none.job", &[2, 0, 3, 6, 4, 0, 0, 0, 6, 1, 0, 2])
 }
 
