@@ -80,7 +80,7 @@ const LINES: [(&str, i32, &str); 91] = [
     ("./route < net-127.job", 0, "routed 4\n1 1 1 2\n2 2 2 2\n3 1 2 2\n"),
     ("./silienvo judge net-127.job 1,2,1", 0, "legal\n"),
     ("./silienvo judge net-127.job 1,1,1", 3, "refused 11 2\n"),
-    ("./silienvo clauses net-127.job", 0, "p cnf 3 4\n1 2 0\n-1 -2 0\n2 3 0\n-2 -3 0\n"),
+    ("./silienvo clauses net-127.job", 0, "p cnf 3 4\n-1 0\n1 2 0\n2 3 0\n-2 -3 0\n"),
     ("./silienvo show net-127.job", 0, "columns 6 # N\nlimit 2 # K\ntrack 3 6 performance # track 1\ntrack 2 6 # track 2\nconnection 3 5 net 127 critical # connection 1\nconnection 4 6 # connection 2\nconnection 4 4 net 127 # connection 3\n"),
     ("./silienvo show net-127.job | ./silienvo job | cmp - net-127.job", 0, ""),
     ("printf 'connection 1 5 net 3 critical\\nconnection 1 5 critical net 3\\n' | ./silienvo p1 1 > p1-nets.job && ./silienvo route p1-nets.job", 0, "routed 14\n1 7 1 1\n2 7 1 1\n"),

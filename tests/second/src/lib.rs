@@ -116,11 +116,33 @@ mod tests {
         }
     }
 
+    /// The models of a job's clauses, each as the labels that it spells.
+    fn models(job: &Job) -> Vec<Vec<usize>> {
+        let (clauses, w, count) = (slow::clauses(job), slow::width(job) as usize, job.connections.len());
+        let model = |bits: usize| {
+            let value = |variable: u64| bits >> (w * count - variable as usize) & 1 == 1;
+            let label = |m: usize| 1 + (bits >> (w * (count - 1 - m)) & ((1 << w) - 1));
+            let labels = (0..count).map(label).collect();
+            (!clauses.iter().any(|clause| slow::false_under(clause, value))).then_some(labels)
+        };
+        (0..1 << (w * count)).filter_map(model).collect()
+    }
+
+    #[test]
+    fn the_models_of_the_clauses_are_the_routings() {
+        let mut rng = make::Rng::new(3);
+        for i in 0..300 {
+            let job = if i % 3 == 0 { make::small(&mut rng) } else { make::crowded(&mut rng) };
+            assert_eq!(models(&job), slow::routings(&job), "{job:?}");
+        }
+    }
+
     #[test]
     fn a_job_is_read_back_as_it_was_written() {
         let mut rng = make::Rng::new(2);
-        for _ in 0..200 {
+        for i in 0..200 {
             let job = if rng.once_in(2) { make::full(&mut rng) } else { make::edge(&mut rng) };
+            let job = if i % 2 == 0 { make::joined(&mut rng, job) } else { job };
             assert_eq!(slow::read(&job.encode()), Ok(job.clone()));
             assert_eq!(fast::read(&job.encode()), Ok(job));
         }

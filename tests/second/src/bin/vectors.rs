@@ -18,7 +18,7 @@
 //! | 19 |     2 | the end of the third: the lent buffer before the call; empty where none is lent                                  |
 //! | 21 |     2 | the end of the fourth: the lent buffer after the call; for a job the part of the file that holds the connections |
 //!
-//! Every row of the table of replies and every verdict is there, in each entry that can give it, and each limit on both sides.
+//! Every row of the table of replies and every verdict is there, in each entry that can give it, with nets and without, and each limit on both sides.
 
 use second::boundary;
 use second::kind::kind;
