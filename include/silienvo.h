@@ -81,8 +81,8 @@ typedef struct {
     uint64_t length;
 } SilienvoJob;
 
-/* A connection of the editor. mark: its net's number times 2, plus 1 if it is critical; every byte is a mark. Net 0 is a connection on its own, 1-127 name a net:
- * connections with the same net above 0 are pieces of one net and may share segments. Which of them are critical is each piece's own. */
+/* A connection of the editor. Its mark, as in a job file, is its net's number times 2, plus 1 if it is critical: every byte is a mark. Net 0 is a connection on
+ * its own, 1-127 name a net. Connections with the same net above 0 are pieces of one net: they may share segments, and some may be critical and others not. */
 typedef struct {
     uint8_t left;
     uint8_t right;

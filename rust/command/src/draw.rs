@@ -68,7 +68,8 @@ impl Sheet {
         lanes.iter().max().map_or(1, |last| last + 1)
     }
 
-    /// The same for the connections of a track, given from left to right, if two of them have a column in common, as pieces of one net may. Else one lane will do.
+    /// The same for the connections of a track, given from left to right, if two of them have a column in common, as pieces of one net may; else one lane
+    /// will do.
     fn stack(&mut self, job: &Job, here: &[usize]) -> usize {
         match here.windows(2).any(|two| job.connections[two[1]].left <= job.connections[two[0]].right) {
             true => self.give_lanes(job, here),
@@ -250,12 +251,23 @@ fn axis(sheet: &Sheet, columns: u8, bottom: usize) -> String {
 /// A connection with its tooltip: what lies under it, its bar over its own columns (a critical one's in a heavy outline), and its number.
 fn bar(sheet: &Sheet, connection: &Connection, top: usize, tooltip: &str, under: &str, number: &str) -> String {
     let edges = sheet.edges(connection.left, connection.right);
-    let (bar, critical) = match connection.critical() {
-        true => (block("critical", edges, top, sheet.font + 2, 2.0), ", critical"),
-        false => (block("connection", edges, top + 1, sheet.font, 0.0), ""),
+    let bar = match connection.critical() {
+        true => block("critical", edges, top, sheet.font + 2, 2.0),
+        false => block("connection", edges, top + 1, sheet.font, 0.0),
     };
+    titled(tooltip, &format!("{under}{bar}{number}"))
+}
+
+/// What has one tooltip.
+fn titled(tooltip: &str, drawn: &str) -> String {
+    format!("<g><title>{tooltip}</title>\n{drawn}</g>\n")
+}
+
+/// A connection in words, with what there is to say of its place.
+fn told(connection: &Connection, i: usize, place: &str) -> String {
     let net = if connection.net() > 0 { format!(", net {}", connection.net()) } else { String::new() };
-    format!("<g><title>{tooltip}{net}{critical}</title>\n{under}{bar}{number}</g>\n")
+    let critical = if connection.critical() { ", critical" } else { "" };
+    format!("connection {}: columns {}-{}{place}{net}{critical}", i + 1, connection.left, connection.right)
 }
 
 /// The places of the numbers on one track, its connections given from left to right by their edges and their numbers' widths.
@@ -274,48 +286,54 @@ fn places(bars: &[((usize, usize), usize)]) -> Vec<Place> {
     bars.iter().map(place).collect()
 }
 
-/// The connections of a routing, track by track, each with its number where that stands free. A segment that pieces of one net share is drawn once, under the
-/// first of them, so that it covers no bar.
+/// The connections of a routing, track by track, each with its number where that stands free. A segment that pieces of one net share is drawn once, with the
+/// first of them, so that it covers no bar; on a track with lanes all segments come first, so that they cover no number.
 fn routing(sheet: &Sheet, job: &Job, rows: &[Row]) -> String {
     let mut out = String::new();
     for label in 1..=job.tracks.len() {
         let here = on_track(job, rows, label);
         let bar = |&i: &usize| (sheet.edges(job.connections[i].left, job.connections[i].right), sheet.number_width(i + 1));
         let places = places(&here.iter().map(bar).collect::<Vec<_>>());
-        let mut drawn = 0;
+        let (mut drawn, mut bars) = (0, String::new());
         for (&i, &place) in here.iter().zip(&places) {
-            out += &routed(sheet, job, i, &rows[i], drawn, place);
+            let (segments, bar) = routed(sheet, job, i, &rows[i], drawn, place);
+            out += &segments;
+            bars += &bar;
             drawn = drawn.max(rows[i].last);
         }
+        out += &bars;
     }
     out
 }
 
-/// A connection on its track, over the segments that it occupies; those up to `drawn` are there already.
-fn routed(sheet: &Sheet, job: &Job, i: usize, row: &Row, drawn: usize, place: Place) -> String {
+/// A connection on its track, over the segments that it occupies; those up to `drawn` are there already. What is to be drawn before all bars, and the bar.
+fn routed(sheet: &Sheet, job: &Job, i: usize, row: &Row, drawn: usize, place: Place) -> (String, String) {
     let (connection, track, (top, height)) = (&job.connections[i], &job.tracks[row.label - 1], sheet.segments(row.label));
-    let Connection { left, right, .. } = *connection;
-    let tooltip = format!("connection {}: columns {left}-{right}, track {}, segments {}-{}", i + 1, row.label, row.first, row.last);
+    let tooltip = told(connection, i, &format!(", track {}, segments {}-{}", row.label, row.first, row.last));
     let segment = |segment| block("occupied", sheet.edges(track.columns_of(segment).0, track.columns_of(segment).1), top, height, 1.0);
     let under: String = (row.first.max(drawn + 1)..=row.last).map(segment).collect();
+    if sheet.depths[row.label - 1] > 1 {
+        let segments = if under.is_empty() { under } else { titled(&tooltip, &under) };
+        return (segments, in_lane(sheet, connection, i, top, &tooltip));
+    }
     let (class, foot) = match place {
-        _ if sheet.depths[row.label - 1] > 1 => return in_lane(sheet, connection, i, top, &tooltip, &under),
         Place::Inside => ("inside", sheet.foot(top)),
         Place::Above => ("outside", top - 1),
         Place::Below => ("outside", top + sheet.font + 3 + sheet.font * 2 / 3),
     };
-    bar(sheet, connection, top, &tooltip, &under, &text(class, sheet.edges(left, right), foot, &(i + 1).to_string()))
+    let number = text(class, sheet.edges(connection.left, connection.right), foot, &(i + 1).to_string());
+    (String::new(), bar(sheet, connection, top, &tooltip, &under, &number))
 }
 
 /// A connection in its lane, its number in its bar, or right of that if the bar is too short. `top` is that of the first lane.
-fn in_lane(sheet: &Sheet, connection: &Connection, i: usize, top: usize, tooltip: &str, under: &str) -> String {
+fn in_lane(sheet: &Sheet, connection: &Connection, i: usize, top: usize, tooltip: &str) -> String {
     let (number, top) = (i + 1, top + sheet.lanes[i] * sheet.lane());
     let edges = sheet.edges(connection.left, connection.right);
     let (class, place) = match fits(edges, sheet.number_width(number)) {
         true => ("inside", edges),
         false => ("beside", (edges.1 + 2, edges.1 + 2)),
     };
-    bar(sheet, connection, top, tooltip, under, &text(class, place, sheet.foot(top), &number.to_string()))
+    bar(sheet, connection, top, tooltip, "", &text(class, place, sheet.foot(top), &number.to_string()))
 }
 
 /// The lanes, from 0, of bars given by their edges: for each the first that is free there.
@@ -337,8 +355,7 @@ fn waiting(sheet: &Sheet, job: &Job) -> String {
         out += &text("axis label", (GUTTER - 8, GUTTER - 8), sheet.foot(HEAD + AXIS + 1), "to route");
     }
     for (i, connection) in job.connections.iter().enumerate() {
-        let tooltip = format!("connection {}: columns {}-{}", i + 1, connection.left, connection.right);
-        out += &in_lane(sheet, connection, i, HEAD + AXIS + 1, &tooltip, "");
+        out += &in_lane(sheet, connection, i, HEAD + AXIS + 1, &told(connection, i, ""));
     }
     out
 }
@@ -374,48 +391,43 @@ mod tests {
         }
     }
 
-    /// The rectangles of these classes in the order drawn: class, edges across, edges down.
-    fn blocks<'a>(picture: &'a str, classes: &[&str]) -> Vec<(&'a str, [f64; 2], [f64; 2])> {
+    /// What is drawn of connections, in order: its class, and its edges across and down. Of the numbers only those right of their bars.
+    fn drawn<'a>(sheet: &Sheet, picture: &'a str) -> Vec<(&'a str, [f64; 2], [f64; 2])> {
         let value = |field: &str| field.split('=').nth(1).unwrap().trim_end_matches("/>").trim_matches('"').parse().unwrap();
-        let block = |line: &'a str| {
-            let (class, rest) = line.strip_prefix("<rect class=\"")?.split_once("\" ")?;
-            let [x, y, width, height]: [f64; 4] = rest.split(' ').map(value).collect::<Vec<_>>().try_into().unwrap();
-            classes.contains(&class).then_some((class, [x, x + width], [y, y + height]))
+        let values = |fields: &str| fields.split(' ').map(value).collect::<Vec<f64>>();
+        let item = |line: &'a str| {
+            if let Some((fields, number)) = line.strip_prefix("<text class=\"beside\" ").and_then(|rest| rest.split_once('>')) {
+                let [x, foot] = values(fields)[..] else { panic!("{line}") };
+                let width = sheet.number_width(number.trim_end_matches("</text>").parse().unwrap());
+                return Some(("beside", [x, x + width as f64], [foot - 0.72 * sheet.font as f64, foot]));
+            }
+            let (class, fields) = line.strip_prefix("<rect class=\"")?.split_once("\" ")?;
+            let [x, y, width, height] = values(fields)[..] else { panic!("{line}") };
+            ["occupied", "connection", "critical"].contains(&class).then_some((class, [x, x + width], [y, y + height]))
         };
-        picture.lines().filter_map(block).collect()
-    }
-
-    /// The picture of a routed job behind its legend, and the most lanes of a track; nothing if it is not routed.
-    fn drawn(job: &second::Job) -> Option<(String, usize)> {
-        let file = job.encode();
-        let (job, rows) = (view::Job::read(&file).unwrap(), view::rows(&tell::routed(&file, 20_000).unwrap().1?));
-        let picture = svg("", "", &job, Some(&rows));
-        Some((picture[picture.find("<g>").unwrap()..].to_string(), *Sheet::new(&job, Some(&rows)).depths.iter().max().unwrap()))
+        picture[picture.find("<g>").unwrap()..].lines().filter_map(item).collect()
     }
 
     #[test]
-    fn no_bar_is_covered() {
+    fn nothing_covers_a_bar_or_a_number() {
         let mut rng = Rng::new(8);
-        let mut stacked = 0;
+        let (mut stacked, mut numbers) = (0, 0);
         for i in 0..600 {
-            let job = match i % 3 {
-                0 => crowded(&mut rng),
-                1 => packed(&mut rng),
-                _ => full(&mut rng),
-            };
-            let job = joined(&mut rng, job);
-            let Some((picture, lanes)) = drawn(&job) else { continue };
-            let blocks = blocks(&picture, &["occupied", "connection", "critical"]);
-            let bars = blocks.iter().filter(|(class, ..)| *class != "occupied").count();
-            assert_eq!(bars, job.connections.len());
+            let made = [crowded, packed, full][i % 3](&mut rng);
+            let file = joined(&mut rng, made).encode();
+            let Some(lines) = tell::routed(&file, 20_000).unwrap().1 else { continue };
+            let (job, rows) = (view::Job::read(&file).unwrap(), view::rows(&lines));
+            let (sheet, picture) = (Sheet::new(&job, Some(&rows)), svg("", "", &job, Some(&rows)));
+            let drawn = drawn(&sheet, &picture);
             let meet = |a: [f64; 2], b: [f64; 2]| a[0] < b[1] && b[0] < a[1];
-            for (n, (_, across, down)) in blocks.iter().enumerate().filter(|(_, (class, ..))| *class != "occupied") {
-                assert!(blocks[n + 1..].iter().all(|later| !(meet(*across, later.1) && meet(*down, later.2))), "{job:?}");
+            for (n, (class, across, down)) in drawn.iter().enumerate().filter(|(_, (class, ..))| *class != "occupied") {
+                assert!(drawn[n + 1..].iter().all(|later| !(meet(*across, later.1) && meet(*down, later.2))), "{picture}");
+                numbers += usize::from(*class == "beside");
             }
-            assert!((1..=bars).all(|number| picture.contains(&format!(">{number}</text>\n</g>"))));
-            stacked += usize::from(lanes > 1);
+            assert!((1..=rows.len()).all(|number| picture.contains(&format!(">{number}</text>\n</g>"))));
+            stacked += usize::from(sheet.depths.iter().any(|&depth| depth > 1));
         }
-        assert!(stacked > 100, "{stacked}");
+        assert!(stacked > 100 && numbers > 100, "{stacked} {numbers}");
     }
 
     #[test]

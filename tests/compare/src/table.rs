@@ -7,8 +7,8 @@ use wire::Request;
 
 const OPS: [&str; 8] = ["read", "route", "judge", "line", "reply", "p1", "p1route", "program"];
 
-/// Rows of the table, and the ops that can give them. A row `nets` has the jobs in which a net above 0 occurs twice and is not among the one before it; `by nets alone`,
-/// of those, the routings in which two pieces share a segment: without the rule about nets they would not be legal.
+/// Rows of the table, and the ops that can give them. Answers are counted once: behind `nets` stand those to jobs in which a net above 0 occurs twice, and
+/// behind `by nets alone` the routings of such jobs in which two pieces share a segment. Without the rule about nets these would not be legal.
 const ROWS: [(&str, &[&str]); 41] = [
     ("job", &["read"]),
     ("routed", &["route", "p1route", "program"]),

@@ -22,7 +22,8 @@ struct Subject {
 }
 
 /// A job as it is made, or one time in three with its connections as pieces of nets.
-fn perhaps_joined(rng: &mut Rng, job: Job) -> Job {
+fn perhaps_joined(rng: &mut Rng, make: impl FnOnce(&mut Rng) -> Job) -> Job {
+    let job = make(rng);
     if rng.once_in(3) {
         joined(rng, job)
     } else {
@@ -33,25 +34,25 @@ fn perhaps_joined(rng: &mut Rng, job: Job) -> Job {
 /// A job that is small enough for the definitions.
 fn enumerated(rng: &mut Rng) -> Job {
     if rng.once_in(5) {
-        return crowded(rng);
+        crowded(rng)
+    } else {
+        perhaps_joined(rng, small)
     }
-    let job = small(rng);
-    perhaps_joined(rng, job)
 }
 
 /// A job that the search decides within a moment, or does not.
 fn searched(rng: &mut Rng) -> Job {
-    let job = match rng.below(5) {
-        0 => return packed(rng),
-        _ => middle(rng),
-    };
-    perhaps_joined(rng, job)
+    if rng.once_in(5) {
+        packed(rng)
+    } else {
+        perhaps_joined(rng, middle)
+    }
 }
 
 /// A largest job, or nearly.
 fn largest(rng: &mut Rng) -> Job {
-    let job = if rng.once_in(3) { stacked(rng) } else { full(rng) };
-    perhaps_joined(rng, job)
+    let make = if rng.once_in(3) { stacked } else { full };
+    perhaps_joined(rng, make)
 }
 
 /// The next batch. About half of all requests come from jobs small enough for the definitions, and more than half from jobs without nets.
@@ -73,13 +74,11 @@ pub fn batch(rng: &mut Rng) -> Vec<Asked> {
             about(rng, &subject(job, false, cap), &mut out);
         }
         758..=787 => {
-            let job = edge(rng);
-            let job = perhaps_joined(rng, job);
+            let job = perhaps_joined(rng, edge);
             about(rng, &subject(job, false, 10_000), &mut out);
         }
         788..=827 => {
-            let job = over(rng);
-            let file = perhaps_joined(rng, job).encode();
+            let file = perhaps_joined(rng, over).encode();
             files(rng, &file, &mut out);
         }
         828..=877 => cut_replies(rng, &mut out),
@@ -335,8 +334,8 @@ fn programs(rng: &mut Rng, out: &mut Vec<Asked>) {
     let file = job.encode();
     ask(out, way, Request::Program { input: file.clone() });
     ask(out, Way::Fast, Request::Program { input: damage(rng, &file) });
-    let tight = like(rng, &job, 2 + job.tracks.len() / 4, 3);
-    ask(out, Way::Fast, Request::Program { input: perhaps_joined(rng, tight).encode() });
+    let tight = perhaps_joined(rng, |rng| like(rng, &job, 2 + job.tracks.len() / 4, 3)).encode();
+    ask(out, Way::Fast, Request::Program { input: tight });
     if rng.once_in(3) {
         let length = rng.pick(&[4_095, 4_096, 4_097, 4_100, 5_000]);
         ask(out, Way::Fast, Request::Program { input: padded(&file, length) });
