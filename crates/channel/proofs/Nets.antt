@@ -49,11 +49,11 @@ module _ (a b : Connection) where
     -- what does not share a segment does not collide, nor do pieces of one net; all else collides where it shares one
     pub collide-apart : share t a b ≡ false → collide t a b ≡ false
     unfolding collide
-    collide-apart e = λ i. e i && not (pieces a b)
+    collide-apart e = rw e refl
 
     pub collide-pieces : pieces a b ≡ true → collide t a b ≡ false
     unfolding collide
-    collide-pieces e = (λ i. share t a b && not (e i)) ∙ and-false (share t a b)
+    collide-pieces e = rw e (and-false (share t a b))
 
     pub collide-say : collide t a b ≡ false → share t a b ≡ true → pieces a b ≡ true
     unfolding collide
@@ -61,4 +61,4 @@ module _ (a b : Connection) where
 
     pub collide-strange : pieces a b ≡ false → collide t a b ≡ share t a b
     unfolding collide
-    collide-strange e = (λ i. share t a b && not (e i)) ∙ and-true (share t a b)
+    collide-strange e = rw e (and-true (share t a b))
