@@ -9,22 +9,22 @@ use Rattle.text.specs.Text.{Wrote}
 use Rattle.channel.specs.Limits.{Limits}
 use Rattle.channel.specs.Channel.{Connection}
 use Rattle.jobfile.specs.File.{encode}
-use Rattle.jobfile.specs.Rows.{tab, connectionRead, ConnectionKept}
+use Rattle.jobfile.specs.Rows.{tab, connectionSize, connectionRead, ConnectionKept}
 use Rattle.part.specs.declared.Written.{Written}
 use Rattle.part.specs.declared.Written.the-variants as variant
 use Rattle.part.specs.Part.{Part, tracksIn, jobOfPart}
 
 -- how many connections bytes tell, three bytes each; and the connections
 abbrev pub countOf : List ℕ → ℕ
-countOf bytes = length bytes / 3
+countOf bytes = length bytes / connectionSize
 
 abbrev pub connectionsOf : List ℕ → List Connection
-connectionsOf bytes = tab (λ i. connectionRead bytes (3 * i)) (countOf bytes) 0
+connectionsOf bytes = tab (λ i. connectionRead bytes (connectionSize * i)) (countOf bytes) 0
 
 -- a multiple of 3, and N, T, M and K within their limits
 pub record Takes (n t size k : ℕ) : Type 0 where
-  pub whole : 3 * (size / 3) ≡ size
-  pub limits : Limits n t (size / 3) k
+  pub whole : connectionSize * (size / connectionSize) ≡ size
+  pub limits : Limits n t (size / connectionSize) k
 
 -- the file that the bytes give
 abbrev pub fileOf : Part → List ℕ → ℕ → List ℕ
