@@ -1,11 +1,11 @@
 -- Laws of nets: a mark put together and read, pieces of one net, and what collides beside them. Assumes nothing.
-use mathlib.Core.Path.{_≡_, refl, sym, ap, _∙_}
+use mathlib.Core.Path.{_≡_, refl, sym, _∙_}
 use mathlib.Core.Bool.{Bool, true, false, _&&_, not, and-true, and-false}
 use Prim.Native.Nat.{ℕ, _≤_}
 use native.Mathlib.Omega.{arith}
-use lib.Dec.{eqb, ltb}
+use lib.Dec.{ltb}
 use borrow.Author.Tests.{eqb-true, eq-eqb, ltb-true, lt-ltb, not-false}
-use Rattle.facts.proofs.Bools.{both, and-both, false-by, not-both}
+use Rattle.facts.proofs.Bools.{both, and-both, false-by}
 use Rattle.facts.proofs.Odd.{half-of, odd-of, made-of}
 use Rattle.channel.specs.Limits.{mostMark, mostNet}
 use Rattle.channel.specs.Channel.{Track, Connection, markOf, net, critical, pieces, share, collide}

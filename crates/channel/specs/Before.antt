@@ -2,7 +2,7 @@
 use mathlib.Core.Bool.{Bool, _&&_, _||_, not}
 use Prim.Native.Nat.{ℕ, _≤_}
 use lib.Dec.{eqb}
-use Rattle.channel.specs.Channel.{Track, Connection, Job, T, M, performance, tooMany, share, trackAt, connectionAt}
+use Rattle.channel.specs.Channel.{Track, Connection, Job, performance, tooMany, share, trackAt, connectionAt, T, M}
 use Rattle.channel.specs.Valid.{Each}
 use Rattle.channel.specs.Routing.{Rules}
 

@@ -2,17 +2,15 @@
 use mathlib.Core.Path.{_≡_, refl, sym, ap, _∙_}
 use mathlib.Core.Bool.{Bool, true, false, _||_, not, cond}
 use mathlib.Core.List.{[], _∷_}
-use Prim.Native.Nat.{ℕ, zero, suc, _+_, _*_, _/_, _%_, _^_, _<_}
+use Prim.Native.Nat.{ℕ, zero, suc, _+_, _*_, _/_, _^_, _<_}
 use native.Mathlib.Omega.{arith}
 use native.Mathlib.Nat.{pow-succ'}
-use lib.Dec.{eqb}
-use borrow.Author.Tests.{eqb-true, eqb-false, eq-eqb, ne-eqb}
 use Rattle.facts.specs.Odd.{odd, bitOf}
-use Rattle.facts.proofs.Bools.{neither, whether}
+use Rattle.facts.proofs.Bools.{neither}
 use Rattle.facts.proofs.Odd.{bit-odd, odd-bit}
-use Rattle.dimacs.specs.Clause.{Literal, isTrue, makes}
+use Rattle.dimacs.specs.Clause.{isTrue, makes}
 use Rattle.clauses.specs.Clauses.{forbid}
-use Rattle.clauses.proofs.Joins.{bit-le, makes-append}
+use Rattle.clauses.proofs.Joins.{makes-append, bit-le}
 
 -- the code that k variables from v on spell, the highest bit first
 unfoldable pub codeAt : (ℕ → Bool) → ℕ → ℕ → ℕ

@@ -8,7 +8,7 @@ use native.Mathlib.Nat.{eq-or-lt-of-le, suc-mul, add-zero, add-suc}
 use native.Mathlib.Omega.{arith}
 use lib.ListN.{length, length-append}
 use Rattle.facts.specs.Odd.{bitOf}
-use Rattle.facts.proofs.Bools.{and-left, and-right, and-both, not-both}
+use Rattle.facts.proofs.Bools.{not-both, and-left, and-right, and-both}
 pub use Rattle.facts.proofs.Bools.{one-most as bit-le}
 use Rattle.dimacs.specs.Clause.{Clause, isTrue, makes, makesAll}
 use Rattle.channel.specs.Valid.{Each}

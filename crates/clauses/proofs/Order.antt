@@ -10,7 +10,7 @@ use lib.ListN.{length, length-append}
 use borrow.Author.Tests.{le-leb}
 use Rattle.facts.specs.Odd.{odd}
 use Rattle.facts.proofs.Bools.{and-both}
-use Rattle.dimacs.specs.Clause.{Literal, Clause, within, withinAll}
+use Rattle.dimacs.specs.Clause.{Clause, within, withinAll}
 use Rattle.channel.specs.Channel.{Job}
 use Rattle.clauses.specs.Clauses.{Grid, gridOf, joinTo, forbid, bar, widthOf, clausesOf, clauses, variableCount}
 use Rattle.clauses.specs.Groups.{InPairs, Rises}

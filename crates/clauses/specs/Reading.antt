@@ -1,5 +1,5 @@
 -- Stepping stones: the codes and the labels that an assignment spells. `models` (proofs/Models.antt) says what they are of a model. Assumes nothing: these are definitions.
-use mathlib.Core.Bool.{Bool, false, cond}
+use mathlib.Core.Bool.{Bool, false}
 use mathlib.Core.List.{List, [], _∷_, map}
 use Prim.Native.Nat.{ℕ, zero, suc, _+_, _*_}
 use lib.ListN.{getD, drop}

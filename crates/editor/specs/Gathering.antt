@@ -11,7 +11,7 @@ use Rattle.jobfile.specs.Rows.{connectionSize}
 use Rattle.route.specs.declared.Verdict.{Verdict}
 use Rattle.route.specs.declared.Verdict.the-variants as variant
 use Rattle.part.specs.P1.{p1}
-use Rattle.part.specs.Writes.{partRows, fileOf}
+use Rattle.part.specs.Writes.{fileOf, partRows}
 use Rattle.editor.specs.declared.Connection.{Connection as Record}
 use Rattle.editor.specs.Edits.{AsFile}
 

@@ -7,11 +7,11 @@ use native.Mathlib.Omega.{arith}
 use lib.ListN.{length, getD, take, replicate}
 use lib.Seq.{length-take-le}
 use borrow.Author.Tests.{not-true, not-false}
-use Rattle.facts.proofs.Bools.{not-both, never}
+use Rattle.facts.proofs.Bools.{never}
 use Rattle.refusals.specs.Table.{Searched, all-keep, one-breaks}
-use Rattle.channel.specs.Channel.{T, M, trackAt, connectionAt}
+use Rattle.channel.specs.Channel.{trackAt, connectionAt, T, M}
 use Rattle.channel.specs.Valid.{Valid}
-use Rattle.channel.specs.Routing.{routings, routingsBy}
+use Rattle.channel.specs.Routing.{routingsBy, routings}
 use Rattle.jobfile.specs.Rows.{tOf, mOf, kOf, jobOf}
 use Rattle.jobfile.specs.Facts.{Facts}
 use Rattle.jobfile.proofs.Decode.{job-valid}
@@ -20,7 +20,7 @@ use Rattle.occupancy.specs.Runs.{Cell, ownerAt, Owners}
 use Rattle.occupancy.proofs.Owners.{owners-by}
 use Rattle.marks.specs.Marking.{markBytes, fitsRun, takenRun, Among}
 use Rattle.marks.proofs.Laws.{run-open}
-use Rattle.marks.proofs.Kept.{Kept, among, run-ok, run-next, kept-nil}
+use Rattle.marks.proofs.Kept.{Kept, kept-nil, among, run-ok, run-next}
 use Rattle.judge.specs.Judges.{LabelKept, RoutingKept}
 use Rattle.judge.proofs.Laws.{kept-fits, legal-kept, take-next}
 

@@ -8,7 +8,7 @@ use native.Mathlib.Nat.{suc-mul}
 use native.Mathlib.Numerals.{sub-one}
 use Rattle.facts.specs.Odd.{odd}
 use Rattle.text.specs.Text.{Wrote, digits}
-use Rattle.dimacs.specs.Clause.{Literal, Clause}
+use Rattle.dimacs.specs.Clause.{Clause}
 use Rattle.dimacs.specs.Lines.{literalText, literalsText, clauseText}
 use Rattle.channel.specs.Limits.{mostConnections, mostBits, mostVariables}
 use Rattle.channel.specs.declared.Code.{Code}

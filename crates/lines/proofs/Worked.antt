@@ -3,7 +3,7 @@ use mathlib.Core.Path.{_≡_, refl}
 use mathlib.Core.List.{[], _∷_}
 use Rattle.text.specs.Text.{digits}
 use Rattle.dimacs.specs.Lines.{literalText, literalsText, clauseText, headerText}
-use Rattle.channel.specs.Channel.{Job, performance, critical, countTo, anyTo, leftEnd, occupied, taken, tooMany, offPerformance, barred, share, collide, trackAt, connectionAt, pieces, net}
+use Rattle.channel.specs.Channel.{Job, performance, net, critical, pieces, countTo, anyTo, leftEnd, occupied, taken, tooMany, offPerformance, barred, share, collide, trackAt, connectionAt}
 use Rattle.channel.specs.Worked.{track1, track2, jobA, jobOne}
 use Rattle.clauses.specs.Clauses.{seek, bitsFor, joinTo, only, forbid, bar, beyond, bars, pairs, clausesOf, clauseCount}
 use Rattle.lines.specs.Lined.{textOf, lineText}

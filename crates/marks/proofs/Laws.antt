@@ -11,7 +11,7 @@ use lib.Dec.{ltb, eqb}
 use lib.ListN.{length, getD, set, length-set, replicate}
 use lib.Seq.{getD-set-same, getD-set-other}
 use borrow.Author.Tests.{not-true, ltb-false, eqb-true, eq-eqb}
-use Rattle.facts.proofs.Bools.{and-left, and-right, and-both, false-by, not-both, whether}
+use Rattle.facts.proofs.Bools.{whether, not-both, and-left, and-right, and-both, false-by}
 use Rattle.occupancy.specs.Runs.{ownerIn}
 use Rattle.marks.specs.Marking.{free, allFree, fill, fitsRun, first, last, fitsIn}
 

@@ -1,5 +1,5 @@
 -- The twelve numbers, and document 02's: the definitions are run, and what the run means is the law `settled`. Assumes nothing.
-use mathlib.Core.Path.{_≡_, refl, sym, subst}
+use mathlib.Core.Path.{_≡_, refl, subst}
 use mathlib.Core.Logic.{inl, inr}
 use mathlib.Core.List.{List, [], _∷_}
 use Prim.Native.Nat.{ℕ, zero, suc, _<_}
@@ -7,18 +7,17 @@ use native.Mathlib.Omega.{arith}
 use lib.ListN.{getD}
 use Rattle.facts.proofs.Bools.{not-both}
 use Rattle.search.specs.Sequences.{Labelled, legal}
-use Rattle.search.specs.Tree.{Res, found, dead, place, Settled}
+use Rattle.search.specs.Tree.{found, dead, place, Settled}
 use Rattle.search.proofs.Settling.{settled}
 use Rattle.text.specs.Text.{digits}
-use Rattle.dimacs.specs.Lines.{headerText, clauseText, clauseLine, literalsText, literalText}
+use Rattle.dimacs.specs.Lines.{literalText, literalsText, clauseLine, clauseText, headerText}
 use Rattle.dimacs.specs.ReadBack.{headerLine}
-use Rattle.channel.specs.Channel.{Job, M, performance, critical, countTo, anyTo, leftEnd, occupied, taken, tooMany, offPerformance, barred, share, collide, trackAt, connectionAt, pieces, net}
-use Rattle.channel.specs.Routing.{Routing, Routable, FirstRouting, routings, clash, routingsBy, clashBy}
-use Rattle.channel.specs.Verdict.{Need}
-use Rattle.channel.specs.Worked.{jobA, jobB, jobBMarked, jobOne}
-use Rattle.channel.proofs.Says.{to-first, to-none, to-routing, of-routing}
+use Rattle.channel.specs.Channel.{Job, performance, net, critical, pieces, countTo, anyTo, leftEnd, occupied, taken, tooMany, offPerformance, barred, share, collide, trackAt, connectionAt, M}
+use Rattle.channel.specs.Routing.{clashBy, routingsBy, Routing, routings}
+use Rattle.channel.specs.Worked.{jobA, jobBMarked, jobB, jobOne}
+use Rattle.channel.proofs.Says.{to-routing, of-routing, to-first, to-none}
 use Rattle.channel.proofs.Worked.{occupied-worked, searched-worked}
-use Rattle.clauses.specs.Clauses.{clausesOf, beyond, bars, pairs, joinTo, only, bar, forbid, bitsFor, seek}
+use Rattle.clauses.specs.Clauses.{seek, bitsFor, joinTo, only, forbid, bar, beyond, bars, pairs, clausesOf}
 use Rattle.lines.specs.Lined.{textOf, lineText}
 use Rattle.numbers.specs.Twelve.{RoutesFirst, RoutesNone, LinesAre, line1, line2, Twelve, Requested}
 

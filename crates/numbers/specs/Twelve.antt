@@ -3,10 +3,10 @@ use mathlib.Core.Path.{_≡_}
 use mathlib.Core.List.{List, [], _∷_}
 use Prim.Native.Nat.{ℕ, _+_, _<_}
 use lib.ListN.{length, getD}
-use Rattle.channel.specs.Channel.{Job, M, occupiedBy}
+use Rattle.channel.specs.Channel.{Job, occupiedBy, M}
 use Rattle.channel.specs.Routing.{Routing, Routable, FirstRouting}
 use Rattle.channel.specs.Verdict.{Need}
-use Rattle.channel.specs.Worked.{track1, track2, connection, jobA, jobB, jobBMarked, jobOne}
+use Rattle.channel.specs.Worked.{track1, track2, connection, jobA, jobBMarked, jobB, jobOne}
 use Rattle.clauses.specs.Clauses.{clauseCount}
 use Rattle.lines.specs.Lined.{lineText}
 

@@ -7,7 +7,7 @@ use lib.Dec.{eqb}
 use borrow.Author.Tests.{eqb-true, eqb-false, eq-eqb, ne-eqb}
 use Rattle.facts.proofs.Bools.{iff, whether}
 use Rattle.channel.specs.Limits.{mostNet}
-use Rattle.channel.specs.Channel.{Job, M, net, pieces, connectionAt}
+use Rattle.channel.specs.Channel.{Job, net, pieces, connectionAt, M}
 use Rattle.channel.specs.Valid.{Valid}
 use Rattle.channel.proofs.Nets.{net-most, pieces-say, pieces-are}
 use Rattle.channel.proofs.Validity.{rule-at}

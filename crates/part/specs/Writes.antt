@@ -4,7 +4,7 @@ use mathlib.Core.Path.{_≡_}
 use mathlib.Core.List.{List}
 use Prim.Native.Nat.{ℕ, _*_, _/_}
 use lib.ListN.{length}
-use Rattle.refusals.specs.Table.{Rows, row, _or_, nowhere, roomRow, FirstBroken, Refuses, Passes}
+use Rattle.refusals.specs.Table.{Rows, row, _or_, nowhere, FirstBroken, Refuses, Passes, roomRow}
 use Rattle.text.specs.Text.{Wrote}
 use Rattle.channel.specs.Limits.{Limits}
 use Rattle.channel.specs.Channel.{Connection}

@@ -15,13 +15,13 @@ use Rattle.facts.specs.Odd.{bitOf}
 use Rattle.channel.specs.Limits.{mostTracks, mostConnections, mostCodes}
 use Rattle.channel.specs.Label.{code}
 use Rattle.channel.specs.Valid.{Each}
-use Rattle.clauses.specs.Clauses.{Grid, joinTo, only, widthOf, meets, bitsFor}
-use Rattle.clauses.proofs.Joins.{length-join, only-length, only-true, join-most, only-most, join-split, join-empty, join-cut, join-of, only-of}
+use Rattle.clauses.specs.Clauses.{Grid, bitsFor, joinTo, only, widthOf, meets}
+use Rattle.clauses.proofs.Joins.{length-join, join-most, only-length, only-true, only-most, join-split, join-empty, join-cut, join-of, only-of}
 use Rattle.places.specs.declared.Place.{Place}
 use Rattle.places.specs.declared.Place.the-variants.{One, Two}
 use Rattle.places.specs.declared.Row.{Row}
 use Rattle.places.specs.Places.{forbidden, placeAt, rowTo, rowOf, rowPlaces, stagePlaces, placesOf, placesBefore}
-use Rattle.places.specs.Table.{shut, cross, due, tableGrid, forbiddenIn, tableRow, manyClauses}
+use Rattle.places.specs.Table.{shut, cross, tableGrid, due, forbiddenIn, tableRow, manyClauses}
 use Rattle.places.specs.Rows.{OnWalk}
 use Rattle.places.proofs.Sizes.{few-codes}
 

@@ -4,10 +4,10 @@ use mathlib.Core.Bool.{false, _&&_, not}
 use mathlib.Core.List.{List}
 use Prim.Native.Nat.{ℕ, _+_, _<_}
 use native.Mathlib.Omega.{arith}
-use Rattle.channel.specs.Channel.{Job, T, M, Barred, Collide, collide, trackAt, connectionAt}
-use Rattle.clauses.specs.Clauses.{gridOf, clauses, clausesOf}
+use Rattle.channel.specs.Channel.{Job, collide, trackAt, connectionAt, T, M, Barred, Collide}
+use Rattle.clauses.specs.Clauses.{gridOf, clausesOf, clauses}
 use Rattle.clauses.proofs.Same.{same-clauses}
-use Rattle.occupancy.specs.Runs.{Tabled, firstIn, lastIn}
+use Rattle.occupancy.specs.Runs.{firstIn, lastIn, Tabled}
 use Rattle.occupancy.proofs.Cells.{share-cells}
 use Rattle.places.specs.Table.{shut, cross, tableGrid}
 

@@ -1,14 +1,13 @@
 -- The walk keeps the marks of the labels passed, a legal partial routing (`Going`): a label that fits beside them is kept, and one that does not ends it. Assumes nothing.
 use mathlib.Core.List.{List}
 use Prim.Native.Nat.{ℕ, _-_}
-use native.Mathlib.Omega.{arith}
 use lib.ListN.{length, getD}
 use borrow.Author.Needs.{needs}
 use denote.Ref.{now}
 use Rattle.channel.specs.Channel.{trackAt, connectionAt}
 use Rattle.jobfile.specs.Rows.{kOf, jobOf}
 use Rattle.occupancy.specs.Runs.{Cell}
-use Rattle.judge.proofs.Going.{Going, Asked, going-first, going-low, going-high, going-last, asked-connection, asked-among, asked-shut, asked-open, asked-on}
+use Rattle.judge.proofs.Going.{Going, going-first, Asked, going-low, going-high, going-last, asked-connection, asked-among, asked-shut, asked-open, asked-on}
 use Rattle.judge.proofs.bad_label.Statement.{statement}
 use Rattle.judge.proofs.bad_label.Tie as tie
 

@@ -5,7 +5,7 @@ use native.Mathlib.Omega.{arith}
 use denote.Ref.{now}
 use Rattle.channel.specs.declared.Code.{Code}
 use Rattle.occupancy.specs.Runs.{firstIn, lastIn}
-use Rattle.marks.specs.Marking.{first, last, fitsRun, fitsIn}
+use Rattle.marks.specs.Marking.{fitsRun, first, last, fitsIn}
 use Rattle.marks.proofs.fits.Statement.{statement}
 use Rattle.marks.proofs.fits.Tie as tie
 

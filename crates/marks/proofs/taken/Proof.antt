@@ -5,7 +5,7 @@ use native.Mathlib.Omega.{arith}
 use denote.Ref.{now}
 use Rattle.channel.specs.declared.Code.{Code}
 use Rattle.occupancy.specs.Runs.{firstIn, lastIn}
-use Rattle.marks.specs.Marking.{first, last, takenRun, takenIn}
+use Rattle.marks.specs.Marking.{takenRun, first, last, takenIn}
 use Rattle.marks.proofs.taken.Statement.{statement}
 use Rattle.marks.proofs.taken.Tie as tie
 

@@ -1,8 +1,6 @@
 -- `owner_of`: a net is its own number, and a connection on its own is numbered behind the nets.
-use mathlib.Core.Path.{sym, ap, _∙_}
-use native.Mathlib.Omega.{arith}
+use mathlib.Core.Path.{sym, _∙_}
 use borrow.Author.Needs.{needs}
-use Rattle.occupancy.specs.Runs.{ownerOf}
 use Rattle.occupancy.proofs.Owners.{owner-alone, owner-net}
 use Rattle.occupancy.proofs.owner_of.Statement.{statement}
 use Rattle.occupancy.proofs.owner_of.Tie as tie
