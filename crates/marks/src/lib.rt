@@ -7,7 +7,7 @@ use channel::MOST_TRACKS;
 use occupancy::TABLE;
 use text::wide;
 ghost use mathlib.Core.Path.{_≡_};
-ghost use Prim.Native.Nat.{_+_, _≤_, _<_};
+ghost use Prim.Native.Nat.{_+_, _-_, _≤_, _<_};
 ghost use Rattle.channel.specs.Limits.{mostTracks, mostSegments};
 ghost use Rattle.marks.specs.Marking.{markBytes, base, free, allFree, fill, fitsRun, takenRun, Among, first, last, Inside, fitsIn, takenIn};
 
@@ -17,7 +17,7 @@ pub const MARKS: usize = MOST_TRACKS * MOST_SEGMENTS;
 fn is_free(owner: u8, mark: u8) -> bool
     ensures { λ r. ⌜ r ≡ free owner mark ⌝ }
 {
-    (mark == 0) | (mark == owner)
+    mark == 0 || mark == owner
 }
 
 // Where the marks of the track start.
@@ -28,14 +28,14 @@ fn base_of(label: Label) -> usize
     wide(channel::code_of(label).0) * MOST_SEGMENTS
 }
 
-// Whether the n marks from at on are free for an owner.
-fn run_free(owner: u8, marks: &[u8; MARKS], at: usize, n: usize) -> bool
-    requires { ⌜ at + n ≤ markBytes ⌝ }
-    ensures { λ r. ⌜ r ≡ allFree owner (now (marks .entry)) at n ⌝ }
+// Whether the marks from one to another are free for an owner.
+fn run_free(owner: u8, marks: &[u8; MARKS], from: usize, to: usize) -> bool
+    requires { ⌜ (from ≤ to) × (to < markBytes) ⌝ }
+    ensures { λ r. ⌜ r ≡ allFree owner (now (marks .entry)) from (to + 1 - from) ⌝ }
 {
-    let mut k = 0;
-    while k < n {
-        if !is_free(owner, marks[at + k]) {
+    let mut k = from;
+    while k <= to {
+        if !is_free(owner, marks[k]) {
             return false;
         }
         k += 1;
@@ -65,7 +65,8 @@ pub fn fits_run(owner: u8, marks: &[u8; MARKS], label: Label, first: usize, last
     if last < first {
         return false;
     }
-    run_free(owner, marks, base_of(label) + first, last + 1 - first)
+    let base = base_of(label);
+    run_free(owner, marks, base + first, base + last)
 }
 
 // The marks with its own on that run.
