@@ -43,7 +43,7 @@ fn bad_label(file: &[u8], tracks: u8, labels: &[u8]) -> usize
         if !marks::fits_run(owner, &marks, Label(label), first, last) {
             return number;
         }
-        marks = marks::taken_run(owner, &marks, Label(label), first, last);
+        marks::take_run(owner, &mut marks, Label(label), first, last);
         i += 1;
     }
     0

@@ -43,18 +43,16 @@ fn run_free(owner: u8, marks: &[u8; MARKS], from: usize, to: usize) -> bool
     true
 }
 
-// The marks with this owner on the n from at on.
-fn filled(owner: u8, marks: &[u8; MARKS], at: usize, n: usize) -> [u8; MARKS]
+// Puts an owner on the n marks from at on.
+fn mark(owner: u8, marks: &mut [u8; MARKS], at: usize, n: usize)
     requires { ⌜ at + n ≤ markBytes ⌝ }
-    ensures { λ r. ⌜ r ≡ fill owner (now (marks .entry)) at n ⌝ }
+    ensures { λ r. ⌜ now (marks .exit) ≡ fill owner (now (marks .entry)) at n ⌝ }
 {
-    let mut next = *marks;
     let mut k = 0;
     while k < n {
-        next[at + k] = owner;
+        marks[at + k] = owner;
         k += 1;
     }
-    next
 }
 
 // Whether a connection of this owner, with this first and last segment on the track, fits there beside those that are marked.
@@ -69,18 +67,12 @@ pub fn fits_run(owner: u8, marks: &[u8; MARKS], label: Label, first: usize, last
     run_free(owner, marks, base + first, base + last)
 }
 
-// The marks with its own on that run.
-pub fn taken_run(
-    owner: u8,
-    marks: &[u8; MARKS],
-    label: Label,
-    first: usize,
-    last: usize,
-) -> [u8; MARKS]
+// Takes that run for it.
+pub fn take_run(owner: u8, marks: &mut [u8; MARKS], label: Label, first: usize, last: usize)
     requires { ⌜ Among (label .0) first last × (first ≤ last) ⌝ }
-    ensures { λ r. ⌜ r ≡ takenRun owner (now (marks .entry)) (label .0) first last ⌝ }
+    ensures { λ r. ⌜ now (marks .exit) ≡ takenRun owner (now (marks .entry)) (label .0) first last ⌝ }
 {
-    filled(owner, marks, base_of(label) + first, last + 1 - first)
+    mark(owner, marks, base_of(label) + first, last + 1 - first);
 }
 
 // Whether connection i + 1 fits on the track beside those that are marked, by the table.
@@ -94,13 +86,13 @@ pub fn fits(runs: &[u8; TABLE], marks: &[u8; MARKS], i: usize, label: Label) -> 
     fits_run(occupancy::owner_in(runs, i), marks, label, first, last)
 }
 
-// The marks with those of connection i + 1 on the track, by the table.
-pub fn taken(runs: &[u8; TABLE], marks: &[u8; MARKS], i: usize, label: Label) -> [u8; MARKS]
+// Takes the run of connection i + 1 on the track, by the table.
+pub fn take(runs: &[u8; TABLE], marks: &mut [u8; MARKS], i: usize, label: Label)
     requires { ⌜ Inside (now runs) i (label .0) × (first (now runs) i (label .0) ≤ last (now runs) i (label .0)) ⌝ }
-    ensures { λ r. ⌜ r ≡ takenIn (now (runs .entry)) i (now (marks .entry)) (label .0) ⌝ }
+    ensures { λ r. ⌜ now (marks .exit) ≡ takenIn (now (runs .entry)) i (now (marks .entry)) (label .0) ⌝ }
 {
     let code = channel::code_of(label);
     let first = occupancy::first_in(runs, i, code);
     let last = occupancy::last_in(runs, i, code);
-    taken_run(occupancy::owner_in(runs, i), marks, label, first, last)
+    take_run(occupancy::owner_in(runs, i), marks, label, first, last);
 }

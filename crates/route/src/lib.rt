@@ -72,7 +72,8 @@ fn try_tracks_from(
         }
         left -= 1;
         if marks::fits(runs, &marks, i, Label(t)) {
-            let next = marks::taken(runs, &marks, i, Label(t));
+            let mut next = marks;
+            marks::take(runs, &mut next, i, Label(t));
             match place_connection(runs, labels, tracks, m, i + 1, next, left) {
                 Step::Found(rest) => {
                     labels[i] = t;

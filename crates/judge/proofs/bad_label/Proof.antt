@@ -65,8 +65,8 @@ returns-3 c =
     let w = o .before in
     asked-shut (asked (w .before .before .before .before)) (cell w) (o .owner-on .ensures) (f .fits-run .ensures) (c .if3 .taken)
 
-taken-run-requires : tie.Need-taken-run-requires Inv-loop μ-loop
-taken-run-requires c κs =
+take-run-requires : tie.Need-take-run-requires Inv-loop μ-loop
+take-run-requires c κs =
     let d = c .before in
     let f = d .before in
     let o = f .before .before in
@@ -80,7 +80,7 @@ loop-again c =
     let f = d .before in
     let o = f .before .before in
     let w = o .before in
-    asked-on (asked (w .before .before .before .before)) (cell w) (o .owner-on .ensures) (f .fits-run .ensures) (d .if3 .left) (c .taken-run .result) (c .taken-run .ensures)
+    asked-on (asked (w .before .before .before .before)) (cell w) (o .owner-on .ensures) (f .fits-run .ensures) (d .if3 .left) (c .take-run .last .1 .0) (c .take-run .ensures)
 
 returns-4 : tie.Need-returns-4 Inv-loop μ-loop
 returns-4 c = going-last (c .before .loop .inv) (c .loop-test .left)
@@ -89,5 +89,5 @@ pub bad-label-spec : {M : Type 1} → statement M
 bad-label-spec =
     tie.close (tie.spec Inv-loop μ-loop starts-requires loop-holds (λ c. search needs)
     (λ c. search needs) returns returns-2 bounds-on-requires (λ c κs. search needs)
-    (λ c κs. search needs) owner-on-requires fits-run-requires returns-3 taken-run-requires (λ c. search needs)
+    (λ c κs. search needs) owner-on-requires fits-run-requires returns-3 take-run-requires (λ c. search needs)
     (λ c. search needs) loop-again returns-4)

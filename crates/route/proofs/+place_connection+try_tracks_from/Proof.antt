@@ -15,7 +15,7 @@ use Rattle.search.specs.Tree.{place, tries}
 use Rattle.marks.specs.Marking.{Inside, marking}
 use Rattle.marks.proofs.Laws.{fits-open}
 use Rattle.marks.proofs.fits.Reads as fits-reads
-use Rattle.marks.proofs.taken.Reads as taken-reads
+use Rattle.marks.proofs.take.Reads as take-reads
 use Rattle.route.specs.declared.Step.{Step}
 use Rattle.route.specs.declared.Step.the-variants.{Dead}
 use Rattle.route.specs.Cut.{CutTo}
@@ -73,8 +73,8 @@ module _ (n : ℕ) where
   trying = (
     fits-reads.Asked,
     fits-reads.Learnt,
-    taken-reads.Asked,
-    taken-reads.Learnt,
+    take-reads.Asked,
+    take-reads.Learnt,
     and 2 place-connection-kinds.ps (falls 2 place-connection-kinds.ps _<_ μ-place-connection n) place-connection.Pre,
     place-connection.Post,
   )
@@ -121,8 +121,8 @@ module _ (n : ℕ) where
   placed c =
       let L = c .before .before .before .before .before .before .before .before .before in
       let a = L .before .before .args in
-      subst (λ (x : List ℕ). CutTo (L .loop .left - 1) (a .i + 1) (place (marking (now (a .runs)) (a .tracks)) (a .m - (a .i + 1)) (a .i + 1, x)) (now (a .labels)) (c .place-connection .result) (c .place-connection .last .1 .0)) (c .before .before .taken .ensures)
-      (subst (λ (x : List ℕ). CutTo (L .loop .left - 1) (a .i + 1) (place (marking (now (a .runs)) (a .tracks)) (a .m - (a .i + 1)) (a .i + 1, c .before .before .taken .result)) x (c .place-connection .result) (c .place-connection .last .1 .0)) (L .loop .inv .same) (c .place-connection .ensures))
+      subst (λ (x : List ℕ). CutTo (L .loop .left - 1) (a .i + 1) (place (marking (now (a .runs)) (a .tracks)) (a .m - (a .i + 1)) (a .i + 1, x)) (now (a .labels)) (c .place-connection .result) (c .place-connection .last .1 .0)) (c .before .before .take .ensures)
+      (subst (λ (x : List ℕ). CutTo (L .loop .left - 1) (a .i + 1) (place (marking (now (a .runs)) (a .tracks)) (a .m - (a .i + 1)) (a .i + 1, c .before .before .take .last .1 .0)) x (c .place-connection .result) (c .place-connection .last .1 .0)) (L .loop .inv .same) (c .place-connection .ensures))
 
   -- the loop goes on after a dead end
   on-dead : (p : Placed) (k : ℕ) → p .place-connection .result ≡ Dead k → let L = p .before .before .before .before .before .before .before .before .before in let a = L .before .before .args in
@@ -164,8 +164,8 @@ module _ (n : ℕ) where
   fits-requires : try-tracks-from-lts.Need-fits-requires trying trying-at try-tracks-from.Post Inv μ
   fits-requires c κs = in-table (c .before)
 
-  taken-requires : try-tracks-from-lts.Need-taken-requires trying trying-at try-tracks-from.Post Inv μ
-  taken-requires c κs = (in-table (c .before .before .before .before), fits-open _ _ _ _ (sym (c .before .before .fits2 .ensures) ∙ c .before .if2 .taken))
+  take-requires : try-tracks-from-lts.Need-take-requires trying trying-at try-tracks-from.Post Inv μ
+  take-requires c κs = (in-table (c .before .before .before .before), fits-open _ _ _ _ (sym (c .before .before .fits2 .ensures) ∙ c .before .if2 .taken))
 
   place-connection-requires : try-tracks-from-lts.Need-place-connection-requires trying trying-at try-tracks-from.Post Inv μ
   place-connection-requires c κs =
@@ -200,7 +200,7 @@ module _ (n : ℕ) where
   loop-again c =
       ⊎-elim
       (λ w.
-      let p : Placed = record { before = record { before = record { before = record { before = record { before = c .before; if2 = w .0 }; marks2 = w .1 }; taken = w .2 }; place-connection-arg = w .3 }; place-connection = w .4 } in
+      let p : Placed = record { before = record { before = record { before = record { before = record { before = c .before; if2 = w .0 }; next = w .1 }; take = w .2 }; place-connection-arg = w .3 }; place-connection = w .4 } in
       rw (w .10, w .11) (on-dead p (w .8 .given .0 .0) (w .8 .given .1)))
       (λ w.
       let d : Barred = record { before = c .before; if2 = w .0 } in
@@ -218,7 +218,7 @@ module _ (n : ℕ) where
   tries-closed : {M : Type 1} → try-tracks-from-lts.Closed trying trying-at try-tracks-from.Post M
   tries-closed =
       try-tracks-from-lts.spec trying trying-at try-tracks-from.Post Inv μ
-      (λ c. search needs) (search needs) returns (search needs) fits-requires taken-requires (search needs)
+      (λ c. search needs) (search needs) returns (search needs) fits-requires take-requires (search needs)
       place-connection-requires (search needs) slice-write-labels same-length-2 returns-2 (search needs)
       (search needs) (search needs) returns-3 (search needs) (search needs) loop-again (search needs)
       returns-4

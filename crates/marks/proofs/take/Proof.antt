@@ -1,4 +1,4 @@
--- `taken`: the table tells the run and its owner, and the run its marks.
+-- `take`: the table tells the run and its owner, and the run its marks.
 use mathlib.Core.Path.{_≡_, ap, _∙_}
 use Prim.Native.Nat.{ℕ, _-_}
 use native.Mathlib.Omega.{arith}
@@ -6,8 +6,8 @@ use denote.Ref.{now}
 use Rattle.channel.specs.declared.Code.{Code}
 use Rattle.occupancy.specs.Runs.{firstIn, lastIn}
 use Rattle.marks.specs.Marking.{takenRun, first, last, takenIn}
-use Rattle.marks.proofs.taken.Statement.{statement}
-use Rattle.marks.proofs.taken.Tie as tie
+use Rattle.marks.proofs.take.Statement.{statement}
+use Rattle.marks.proofs.take.Tie as tie
 
 -- the code, and what the table has for it
 code-is : (c : tie.After-code-of) → c .code-of .result .0 ≡ c .before .args .label .0 - 1
@@ -31,15 +31,15 @@ last-in-requires c κs = let p = c .before .before .pre .0 in (p .connection, om
 owner-in-requires : tie.Need-owner-in-requires
 owner-in-requires c κs = c .before .before .before .pre .0 .connection
 
-taken-run-requires : tie.Need-taken-run-requires
-taken-run-requires c κs = let l = c .before in let p = l .before .before .before .pre in (rw (first-is (l .before), last-is l) (p .0 .among), rw (first-is (l .before), last-is l) (p .1))
+take-run-requires : tie.Need-take-run-requires
+take-run-requires c κs = let l = c .before .before in let p = l .before .before .before .pre in (rw (first-is (l .before), last-is l) (p .0 .among), rw (first-is (l .before), last-is l) (p .1))
 
 returns : tie.Need-returns
 unfolding takenIn
 returns c =
-    let l = c .before .before in
+    let l = c .before .before .before in
     let a = l .before .before .before .args in
-    c .taken-run .ensures ∙ (λ i. takenRun (c .before .owner-in .ensures i) (now (a .marks)) (a .label .0) (first-is (l .before) i) (last-is l i))
+    c .take-run .ensures ∙ (λ i. takenRun (c .before .before .owner-in .ensures i) (now (a .marks)) (a .label .0) (first-is (l .before) i) (last-is l i))
 
-pub taken-spec : {M : Type 1} → statement M
-taken-spec = tie.close (tie.spec code-of-requires first-in-requires last-in-requires owner-in-requires taken-run-requires returns)
+pub take-spec : {M : Type 1} → statement M
+take-spec = tie.close (tie.spec code-of-requires first-in-requires last-in-requires owner-in-requires take-run-requires returns)
