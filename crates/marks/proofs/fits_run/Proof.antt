@@ -5,7 +5,6 @@ use Prim.Native.Nat.{_+_, _-_}
 use native.Mathlib.Omega.{arith}
 use denote.Ref.{now}
 use borrow.Author.Tests.{lt-ltb, le-ltb}
-use borrow.Author.Needs.{needs}
 use Rattle.marks.specs.Marking.{base, allFree, fitsRun}
 use Rattle.marks.proofs.fits_run.Statement.{statement}
 use Rattle.marks.proofs.fits_run.Tie as tie

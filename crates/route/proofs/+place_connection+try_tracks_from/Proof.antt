@@ -11,7 +11,7 @@ use borrow.Author.Needs.{needs}
 use denote.Ref.{now}
 use borrow.Fn.Kinds.{In}
 use borrow.Fn.PlainCycle.{Measures, is, falls, and}
-use Rattle.search.specs.Tree.{place, tries}
+use Rattle.search.specs.Tree.{tries, place}
 use Rattle.marks.specs.Marking.{Inside, marking}
 use Rattle.marks.proofs.Laws.{fits-open}
 use Rattle.marks.proofs.fits.Reads as fits-reads
