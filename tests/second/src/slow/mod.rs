@@ -1,4 +1,4 @@
-//! The documents read aloud. Each definition is one sentence of it, and nothing is saved for later.
+//! The documents read aloud. Each definition is one sentence of them, and nothing is saved for later.
 
 mod channel;
 mod clauses;
