@@ -5,7 +5,7 @@ use Prim.Native.Nat.{ℕ, _≤_}
 use native.Mathlib.Omega.{arith}
 use lib.Dec.{ltb}
 use borrow.Author.Tests.{eqb-true, eq-eqb, ltb-true, lt-ltb, not-false}
-use Rattle.facts.proofs.Bools.{both, and-both, false-by}
+use Rattle.facts.proofs.Bools.{both, and-both, iff, false-by}
 use Rattle.facts.proofs.Odd.{half-of, odd-of, made-of}
 use Rattle.channel.specs.Limits.{mostMark, mostNet}
 use Rattle.channel.specs.Channel.{Track, Connection, markOf, net, critical, pieces, share, collide}
@@ -38,6 +38,10 @@ module _ (a b : Connection) where
   unfolding pieces
   pieces-are h e = and-both (lt-ltb 0 (net a) h) (eq-eqb (net a) (net b) e)
 
+  pub pieces-back : pieces a b ≡ true → pieces b a ≡ true
+  unfolding pieces
+  pieces-back h = let s = pieces-say h in and-both (lt-ltb 0 (net b) (omega (arith, s .0, s .1))) (eq-eqb (net b) (net a) (sym (s .1)))
+
   -- net 0 never joins
   pub alone-left : net a ≡ 0 → pieces a b ≡ false
   alone-left e = false-by (λ h. let s = pieces-say h in absurd (omega (arith, s .0)))
@@ -62,3 +66,10 @@ module _ (a b : Connection) where
     pub collide-strange : pieces a b ≡ false → collide t a b ≡ share t a b
     unfolding collide
     collide-strange e = rw e (and-true (share t a b))
+
+-- either way round they are the same
+pub pieces-swap : (a b : Connection) → pieces a b ≡ pieces b a
+pieces-swap a b = iff (pieces-back a b) (pieces-back b a)
+
+pub pieces-on : (a b c : Connection) → pieces a b ≡ true → pieces b c ≡ true → pieces a c ≡ true
+pieces-on a b c g h = pieces-are a c (pieces-say a b g .0) (pieces-say a b g .1 ∙ pieces-say b c h .1)

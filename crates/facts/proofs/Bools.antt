@@ -2,10 +2,11 @@
 use mathlib.Core.Path.{_≡_, refl, sym, _∙_}
 use mathlib.Core.Bool.{Bool, true, false, _&&_, _||_, cond, false≢true}
 use mathlib.Mathlib.Data.Bool.Basic.{or-eq-false-eq-eq-false-and-eq-false}
-use Prim.Native.Nat.{ℕ, _≤_}
+use mathlib.Core.Logic.{_⊎_, inl, inr}
+use Prim.Native.Nat.{ℕ, _≤_, _<_}
 use native.Mathlib.Omega.{arith}
-use lib.Dec.{leb}
-use borrow.Author.Tests.{leb-true, le-leb}
+use lib.Dec.{leb, ltb}
+use borrow.Author.Tests.{leb-true, le-leb, ltb-true, ltb-false}
 -- a fact that can be decided and cannot fail; each of two tests that both pass, and both of them; a test that cannot fail, and one that cannot pass
 pub use mathlib.Core.HLevel.{dec→stable as sure}
 pub use mathlib.Mathlib.Data.Bool.Basic.{and-elim-left as and-left, and-elim-right as and-right, and-intro as and-both, eq-true-of-not-eq-false as true-by, eq-false-of-not-eq-true as false-by}
@@ -35,6 +36,10 @@ pub whether : {A : Type 0} (b : Bool) → (b ≡ true → A) → (b ≡ false �
 whether true f g = f refl
 whether false f g = g refl
 
+-- two numbers in their order
+pub below : (a b : ℕ) → (a < b) ⊎ (b ≤ a)
+below a b = whether (ltb a b) (λ e. inl (ltb-true a b e)) (λ e. inr (ltb-false a b e))
+
 -- a test counted
 pub one-most : (b : Bool) → cond b 1 0 ≤ 1
 one-most true = omega arith
@@ -47,3 +52,15 @@ not-both p q = absurd (false≢true (sym q ∙ p))
 -- two constructors are never equal: `never cc`, where `cc` finds them
 pub never : {A : Type 0} → _≡_ {A = ℕ} 0 1 → A
 never e = absurd (omega arith)
+
+-- one of two passes
+pub either : (a b : Bool) → (a || b) ≡ true → (a ≡ true) ⊎ (b ≡ true)
+either true b h = inl refl
+either false b h = inr h
+
+pub or-first : {a : Bool} (b : Bool) → a ≡ true → (a || b) ≡ true
+or-first b h = (λ i. h i || b)
+
+pub or-second : (a : Bool) {b : Bool} → b ≡ true → (a || b) ≡ true
+or-second true h = refl
+or-second false h = h

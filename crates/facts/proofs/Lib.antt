@@ -2,3 +2,5 @@ pub mod Bools
 pub mod Tells
 pub mod Same
 pub mod Odd
+pub mod Lists
+pub mod Pigeons

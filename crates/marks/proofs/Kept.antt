@@ -11,19 +11,20 @@ use lib.ListN.{length, getD, length-append, replicate, List·getD-append}
 use lib.Seq.{getD-append-seam}
 use borrow.Author.Tests.{eqb-true, eqb-false, eq-eqb, not-true, le-ltb, leb-true, le-leb}
 use Rattle.facts.proofs.Bools.{both, iff, whether, not-both, and-left, and-right, and-both, false-by}
+use Rattle.facts.proofs.Lists.{zeros}
 use Rattle.search.specs.Tree.{place}
 use Rattle.search.proofs.Same.{same-place}
 use Rattle.channel.specs.Limits.{mostSegments}
 use Rattle.channel.specs.Channel.{Job, pieces, segments, occupied, share, trackAt, connectionAt, T, M, Barred, Collide}
 use Rattle.channel.specs.Valid.{Valid}
 use Rattle.channel.specs.Routing.{routingsBy, Legal, clash, routings}
+use Rattle.channel.proofs.Any.{any-at, any-some}
 use Rattle.channel.proofs.Nets.{collide-apart, collide-pieces, collide-say}
 use Rattle.channel.proofs.Says.{snoc, apart-says, apart-is, nil-legal, more}
 use Rattle.channel.proofs.Validity.{each-at}
 use Rattle.occupancy.specs.Runs.{Run, Cell, ownerIn, Owners, Tabled}
-use Rattle.occupancy.proofs.Intervals.{any-at, any-some}
 use Rattle.marks.specs.Marking.{markBytes, base, free, allFree, fill, fitsRun, takenRun, Among, first, last, Inside, fitsIn, takenIn, marking}
-use Rattle.marks.proofs.Laws.{free-says, free-own, all-free-says, all-free-is, fill-length, fill-off, fill-at, run-open, zeros}
+use Rattle.marks.proofs.Laws.{free-says, free-own, all-free-says, all-free-is, fill-length, fill-off, fill-at, run-open}
 
 -- connection h + 1 on the track labelled l occupies segment k + 1
 abbrev pub takes : Job → ℕ → ℕ → ℕ → Bool

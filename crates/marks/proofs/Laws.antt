@@ -8,7 +8,7 @@ use native.Mathlib.Nat.{eq-or-lt-of-le, le-of-suc-le-suc, not-suc-le-zero}
 use native.Mathlib.Numerals.{add-one}
 use native.Mathlib.Omega.{arith}
 use lib.Dec.{ltb, eqb}
-use lib.ListN.{length, getD, set, length-set, replicate}
+use lib.ListN.{length, getD, set, length-set}
 use lib.Seq.{getD-set-same, getD-set-other}
 use borrow.Author.Tests.{not-true, ltb-false, eqb-true, eq-eqb}
 use Rattle.facts.proofs.Bools.{whether, not-both, and-left, and-right, and-both, false-by}
@@ -82,9 +82,3 @@ run-open owner marks l a e q = ltb-false e a (not-true _ (and-left (not (ltb e a
 pub fits-open : (runs : List ℕ) (i : ℕ) (marks : List ℕ) (l : ℕ) → fitsIn runs i marks l ≡ true → first runs i l ≤ last runs i l
 unfolding fitsIn
 fits-open runs i marks l e = run-open (ownerIn runs i) marks l (first runs i l) (last runs i l) e
-
--- no mark is set at first
-pub zeros : (n k : ℕ) → _≡_ {A = ℕ} (getD (replicate n 0) k 0) 0
-zeros zero k = refl
-zeros (suc n) zero = refl
-zeros (suc n) (suc k) = zeros n k

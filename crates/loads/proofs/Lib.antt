@@ -1,0 +1,6 @@
+pub mod Covers
+pub mod Edits
+pub mod Red
+pub mod Nets
+pub mod Rows
+pub mod Worked
