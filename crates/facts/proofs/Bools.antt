@@ -64,3 +64,8 @@ or-first b h = (λ i. h i || b)
 pub or-second : (a : Bool) {b : Bool} → b ≡ true → (a || b) ≡ true
 or-second true h = refl
 or-second false h = h
+
+-- two tests that say the same where a first one passes
+pub and-where : (a b c : Bool) → (a ≡ true → b ≡ c) → (a && b) ≡ (a && c)
+and-where true b c h = h refl
+and-where false b c h = refl

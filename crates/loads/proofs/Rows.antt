@@ -7,7 +7,7 @@ use Prim.Native.Nat.{ℕ, _+_}
 use native.Mathlib.Omega.{arith}
 use lib.ListN.{length}
 use Rattle.refusals.specs.Table.{before, Passes, Refuses, Sound}
-use Rattle.refusals.proofs.Laws.{behind-row, sound-row, sound-front, nowhere-one}
+use Rattle.refusals.proofs.Laws.{behind-row, refuses-left, refuses-right, passes-or, refuses-row, passes-row, sound-row, sound-front, nowhere-one}
 use Rattle.facts.proofs.Bools.{whether, not-both, true-by, false-by, and-both, and-left, and-right}
 use Rattle.channel.specs.Channel.{Connection}
 use Rattle.loads.specs.Edits.{Edit, clear, add, drop, move, hasRoom, good, there, editRows, accepted}
@@ -41,3 +41,28 @@ module _ (n : ℕ) (cs : List Connection) where
       no : editRows n cs (move k l r) num place → (good n l r && there cs k) ≡ false
       no (inl h) = false-by (λ a. not-both (and-left (good n l r) _ a) (h .1 .0))
       no (inr h) = false-by (λ a. not-both (and-right (good n l r) _ a) (h .1 .0))
+
+  -- what decides, by the three tests
+  pub full : (c : Connection) → hasRoom cs ≡ false → Refuses (editRows n cs (add c)) 2 0
+  unfolding before
+  full c h = refuses-left (refuses-row 2 0 (h, refl)) (behind-row (omega arith))
+
+  pub bad : (c : Connection) → hasRoom cs ≡ true → good n (c .left) (c .right) ≡ false → Refuses (editRows n cs (add c)) 5 (length cs + 1)
+  bad c r h = refuses-right (passes-row 2 (λ p g. not-both r (g .0))) (refuses-row 5 (length cs + 1) (h, refl))
+
+  pub bad-move : (k l r : ℕ) → good n l r ≡ false → Refuses (editRows n cs (move k l r)) 5 k
+  unfolding before
+  bad-move k l r h = refuses-left (refuses-row 5 k (h, refl)) (behind-row (omega arith))
+
+  pub absent : (k : ℕ) → there cs k ≡ false → Refuses (editRows n cs (drop k)) 10 0
+  absent k h = refuses-row 10 0 (h, refl)
+
+  pub absent-move : (k l r : ℕ) → good n l r ≡ true → there cs k ≡ false → Refuses (editRows n cs (move k l r)) 10 0
+  absent-move k l r g h = refuses-right (passes-row 5 (λ p b. not-both g (b .0))) (refuses-row 10 0 (h, refl))
+
+  pub accepted-passes : (e : Edit) → accepted n cs e ≡ true → Passes (editRows n cs e)
+  unfolding accepted
+  accepted-passes clear h = λ x p g. g
+  accepted-passes (add c) h = passes-or (passes-row 2 (λ p g. not-both (and-left (hasRoom cs) _ h) (g .0))) (passes-row 5 (λ p g. not-both (and-right (hasRoom cs) _ h) (g .0)))
+  accepted-passes (drop k) h = passes-row 10 (λ p g. not-both h (g .0))
+  accepted-passes (move k l r) h = passes-or (passes-row 5 (λ p g. not-both (and-left (good n l r) _ h) (g .0))) (passes-row 10 (λ p g. not-both (and-right (good n l r) _ h) (g .0)))
