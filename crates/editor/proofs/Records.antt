@@ -114,7 +114,7 @@ module _ (cs : List Record) where
     rows-from x q (inl g) = inl (g .0, ((λ h. g .1 .0 (takes-to 30 8 k h)), g .1 .1))
     rows-from x q (inr g) = inr (g .0, record { index = g .1 .index; counted = g .1 .counted; broken = λ h. g .1 .broken (kept-to 30 (g .1 .index) h); kept = λ i l. kept-from 30 i (g .1 .kept i l) })
 
-    as-records : (b : ℕ) (old new : List ℕ) (v : Verdict) → AsFile (partRows p1 (bytesOf cs) k) (fileOf p1 (bytesOf cs) k) b old v new → Edits cs k b old v new
+    pub as-records : (b : ℕ) (old new : List ℕ) (v : Verdict) → AsFile (partRows p1 (bytesOf cs) k) (fileOf p1 (bytesOf cs) k) b old v new → Edits cs k b old v new
     as-records b old new v (refuses num place g e f) = refuses num place (record { holds = rows-to num place (g .holds); first = λ x q h. g .first x q (rows-from x q h) }) e f
     as-records b old new v (routes g h) = routes (λ x q i. g x q (rows-from x q i)) (subst (λ f. Routes f b old v new) (file-is k) h)
 

@@ -14,6 +14,7 @@ use Rattle.route.specs.declared.Verdict.the-variants as variant
 use Rattle.route.specs.Routes.{Routes}
 use Rattle.part.specs.Part.{tracksIn, jobOfPart}
 use Rattle.part.specs.P1.{p1}
+use Rattle.part.specs.Writes.{fileOf, partRows}
 use Rattle.editor.specs.declared.Connection.{Connection as Record}
 
 -- the connection that a record tells; those of a list of records; their bytes
@@ -48,3 +49,7 @@ pub data AsFile (R : Rows) (file : List ℕ) (b : ℕ) (old : List ℕ) (v : Ver
 -- the answer of the editor's entry
 abbrev pub Edits : List Record → ℕ → ℕ → List ℕ → Verdict → List ℕ → Type 0
 Edits cs k b old v new = AsFile (editorRows cs k) (editorFile cs k) b old v new
+
+-- the same of bytes, three for each connection: rows 2 and 5 of P1's writer, 2 also for a length that is no multiple of 3, and the file that the bytes give
+abbrev pub RoutesList : List ℕ → ℕ → ℕ → List ℕ → Verdict → List ℕ → Type 0
+RoutesList bytes k b old v new = AsFile (partRows p1 bytes k) (fileOf p1 bytes k) b old v new

@@ -10,15 +10,13 @@ use Rattle.channel.specs.Limits.{mostConnections}
 use Rattle.jobfile.specs.Rows.{connectionSize}
 use Rattle.route.specs.declared.Verdict.{Verdict}
 use Rattle.route.specs.declared.Verdict.the-variants as variant
-use Rattle.part.specs.P1.{p1}
-use Rattle.part.specs.Writes.{fileOf, partRows}
 use Rattle.editor.specs.declared.Connection.{Connection as Record}
-use Rattle.editor.specs.Edits.{AsFile}
+use Rattle.editor.specs.Edits.{RoutesList}
 
 -- the same over the bytes of `count` connections, in an array that has room for the most connections: what the entry calls
 pub record RoutesBytes (a : List ℕ) (count k b : ℕ) (old : List ℕ) (v : Verdict) (new : List ℕ) : Type 0 where
   pub many : mostConnections < count → (v ≡ variant.Refused 2 0) × (new ≡ old)
-  pub few : count ≤ mostConnections → AsFile (partRows p1 (take (connectionSize * count) a) k) (fileOf p1 (take (connectionSize * count) a) k) b old v new
+  pub few : count ≤ mostConnections → RoutesList (take (connectionSize * count) a) k b old v new
 
 -- room for the bytes of the most connections
 abbrev pub mostBytes : ℕ

@@ -1,7 +1,7 @@
-// The editor's entry for P1: a lent list of records, each with left, right and mark, routed as the file with those connections is.
+// The editor's entry for P1: a lent list of records, each with left, right and mark, or of their bytes, routed as the file with those connections is.
 // Document 01, "The job file". A thin walk copies the records to the bytes that the covered core reads.
 ghost use mathlib.Core.Path.{_≡_};
-ghost use Rattle.editor.specs.Edits.{Edits};
+ghost use Rattle.editor.specs.Edits.{Edits, RoutesList};
 ghost use Rattle.editor.specs.Gathering.{noBytes, placed, gathered, RoutesBytes};
 use channel::MOST_CONNECTIONS;
 use jobfile::CONNECTION;
@@ -54,7 +54,19 @@ fn gather(connections: &[Connection]) -> [u8; BYTES]
     a
 }
 
-// The core: refuses by 2 and 5, or writes P1's file and routes it.
+// Routes P1 with the connections that these bytes tell, three bytes each. The writer refuses by 2 and 5, or writes P1's file, and that is routed. The buffer
+// holds the file of the most connections, so the writer never refuses by 9.
+pub fn route_list(connections: &[u8], limit: u32, budget: u32, labels: &mut [u8]) -> Verdict
+    ensures { λ v. ⌜ RoutesList (now (connections .entry)) limit budget (now (labels .entry)) v (now (labels .exit)) ⌝ }
+{
+    let mut file = [0u8; FILE];
+    match write_p1(connections, limit, &mut file) {
+        Written::File(size) => route(&file[..size], budget, labels),
+        Written::Refused { number, place } => Verdict::Refused { number, place },
+    }
+}
+
+// The core: refuses by 2 more connections than the array holds, and else routes their bytes.
 fn route_bytes(
     labels: &mut [u8],
     bytes: [u8; BYTES],
@@ -71,11 +83,7 @@ fn route_bytes(
         };
     }
     let end = CONNECTION * count;
-    let mut file = [0u8; FILE];
-    match write_p1(&bytes[..end], limit, &mut file) {
-        Written::File(size) => route(&file[..size], budget, labels),
-        Written::Refused { number, place } => Verdict::Refused { number, place },
-    }
+    route_list(&bytes[..end], limit, budget, labels)
 }
 
 // The editor's entry: the records are taken apart, and the core does the work.
