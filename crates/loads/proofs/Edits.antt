@@ -2,15 +2,18 @@
 use mathlib.Core.Path.{_≡_, refl, sym, ap, _∙_}
 use mathlib.Core.Bool.{Bool, true, false, _&&_, _||_, not}
 use mathlib.Core.List.{List, [], _∷_, _++_}
-use Prim.Native.Nat.{ℕ, zero, suc, _+_, _≤_, _<_}
+use Prim.Native.Nat.{ℕ, zero, suc, _+_, _-_, _≤_, _<_}
 use native.Mathlib.Omega.{arith}
+use lib.Dec.{leb}
 use lib.ListN.{length, set, length-append, length-set}
+use borrow.Author.Tests.{leb-true}
 use Rattle.facts.specs.Odd.{bitOf}
-use Rattle.facts.proofs.Bools.{iff, one-most}
+use Rattle.facts.proofs.Bools.{both, iff, one-most, and-right}
 use Rattle.channel.specs.Channel.{Connection, pieces, connectionAt}
 use Rattle.channel.specs.Relaxed.{without}
 use Rattle.channel.proofs.Nets.{pieces-back, pieces-swap}
 use Rattle.loads.specs.Loads.{crosses, covered, brings, load}
+use Rattle.loads.specs.Edits.{Edit, clear, add, drop, move, moved, edited, good, there, accepted}
 use Rattle.loads.proofs.Covers.{covered-pieces}
 
 -- c and d beside the same list: which of the two counts first makes no difference. `p`, `q`: c and d cross; `j`: they are pieces of one net; `u`, `v`: c and d
@@ -118,8 +121,27 @@ unfolding load
 load-most [] x = omega arith
 load-most (c ∷ cs) x = omega (arith, load-most cs x, one-most (brings cs c x))
 
-pub without-length : (i : ℕ) (cs : List Connection) → i < length cs → length (without i cs) + 1 ≡ length cs
-unfolding without
-without-length i [] h = absurd (omega arith)
-without-length zero (c ∷ cs) h = omega arith
-without-length (suc i) (c ∷ cs) h = omega (arith, without-length i cs (omega arith))
+-- an edit that is accepted, and does not clear the list, changes a load by one at most
+pub record Near (a b : ℕ) : Type 0 where
+  pub above : a ≤ b + 1
+  pub below : b ≤ a + 1
+
+pub load-edited : (n : ℕ) (cs : List Connection) (e : Edit) (x : ℕ) → (e ≡ clear → ⊥) → accepted n cs e ≡ true → Near (load cs x) (load (edited e cs) x)
+unfolding edited accepted there
+load-edited n cs clear x other ok = absurd (other refl)
+load-edited n cs (add c) x other ok = let g = load-add cs c x in let m = one-most (brings cs c x) in record { above = omega arith; below = omega arith }
+load-edited n cs (drop k) x other ok =
+    let h = both (leb 1 k) _ ok in
+    let i : k - 1 < length cs = omega (arith, leb-true 1 k (h .0), leb-true k (length cs) (h .1)) in
+    let g = load-apart (k - 1) cs x i in
+    let m = one-most (brings (without (k - 1) cs) (connectionAt cs (k - 1)) x) in
+    record { above = omega arith; below = omega arith }
+load-edited n cs (move k l r) x other ok =
+    let h = both (leb 1 k) _ (and-right (good n l r) _ ok) in
+    let i : k - 1 < length cs = omega (arith, leb-true 1 k (h .0), leb-true k (length cs) (h .1)) in
+    let c = connectionAt cs (k - 1) in
+    let g = load-apart (k - 1) cs x i in
+    let f = load-set (k - 1) cs (moved c l r) x i in
+    let m = one-most (brings (without (k - 1) cs) c x) in
+    let q = one-most (brings (without (k - 1) cs) (moved c l r) x) in
+    record { above = omega arith; below = omega arith }

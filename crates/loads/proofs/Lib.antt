@@ -3,4 +3,5 @@ pub mod Edits
 pub mod Red
 pub mod Nets
 pub mod Rows
+pub mod Good
 pub mod Worked

@@ -10,11 +10,12 @@ use lib.Seq.{getD-set-same, getD-set-other}
 use Rattle.channel.specs.Limits.{mostConnections}
 use Rattle.channel.specs.Channel.{Connection, connectionAt}
 use Rattle.channel.specs.Relaxed.{without}
+use Rattle.channel.proofs.Relaxations.{without-length}
 use Rattle.jobfile.specs.Rows.{tab, connectionSize}
 use Rattle.jobfile.proofs.Decode.{tab-length}
 use Rattle.loads.specs.Loads.{brings, load}
 use Rattle.loads.specs.Edits.{drop, edited}
-use Rattle.loads.proofs.Edits.{load-apart, without-length}
+use Rattle.loads.proofs.Edits.{load-apart}
 use Rattle.panel.specs.State.{recordAt, loadsAt, stateBytes, atMost, mIn, connectionIn, listIn, loadIn}
 use Rattle.panel.specs.Does.{down, follows, Relisted}
 use Rattle.panel.specs.Walks.{within, otherOver, turn, Turned, Closed}

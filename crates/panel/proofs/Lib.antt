@@ -6,3 +6,6 @@ pub mod Follows
 pub mod Adding
 pub mod Dropping
 pub mod Moving
+pub mod Sequences
+pub mod Determined
+pub mod Colours
