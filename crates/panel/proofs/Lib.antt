@@ -8,4 +8,5 @@ pub mod Dropping
 pub mod Moving
 pub mod Sequences
 pub mod Determined
+pub mod Routing
 pub mod Colours

@@ -1,3 +1,4 @@
 pub mod State
 pub mod Does
+pub mod Routes
 pub mod Walks

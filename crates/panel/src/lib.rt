@@ -5,16 +5,23 @@ ghost use mathlib.Core.Bool.{true, _&&_, not};
 ghost use Prim.Native.Nat.{suc, _+_, _-_, _*_, _≤_, _<_};
 ghost use lib.Dec.{leb, ltb, eqb};
 ghost use lib.ListN.{length, getD, set};
+ghost use Rattle.facts.specs.Tells.{Tells};
 ghost use Rattle.channel.specs.Limits.{mostColumns, mostConnections};
 ghost use Rattle.jobfile.specs.Rows.{connectionSize};
 ghost use Rattle.loads.specs.Edits.{clear, add, drop, move, edited, good};
-ghost use Rattle.panel.specs.State.{stateBytes, atMost, mIn, listIn};
+ghost use Rattle.part.specs.P1.{p1};
+ghost use Rattle.panel.specs.State.{stateBytes, mIn, listIn};
 ghost use Rattle.panel.specs.Does.{Relisted, Becomes, Does, Makes, Signs};
+ghost use Rattle.panel.specs.Routes.{OfPart, RoutesPanel};
 ghost use Rattle.panel.specs.Walks.{larger, smaller, within, oneNet, otherOver, Reaches, furthest, turn, Turned, Closed};
 use channel::MOST_CONNECTIONS;
 use channel::net_of;
+use editor::route_list;
 use jobfile::CONNECTION;
 use jobfile::within_limits;
+use part::P1_COLUMNS;
+use part::P1_TRACKS;
+use route::Verdict;
 use text::wide;
 
 // N, T and the number of connections; then the connections; then a load for each of the columns 0 to 255, of which 0 is never used.
@@ -42,13 +49,14 @@ struct Span {
     to: usize,
 }
 
-// The number of connections: a byte above the most reads as the most.
-fn count(m: u8) -> usize
-    ensures { λ r. ⌜ (r ≡ atMost m) × (r ≤ mostConnections) ⌝ }
+// The number of connections: a byte above the most reads as the most. The slice tells how many bytes there are.
+fn count(state: &[u8; STATE]) -> usize
+    ensures { λ r. ⌜ (r ≡ mIn (now (state .entry))) × (r ≤ mostConnections) × (length (now (state .entry)) ≡ stateBytes) ⌝ }
 {
-    let n = wide(m);
-    if n <= MOST_CONNECTIONS {
-        return n;
+    let bytes = &state[..];
+    let m = wide(bytes[2]);
+    if m <= MOST_CONNECTIONS {
+        return m;
     }
     MOST_CONNECTIONS
 }
@@ -313,6 +321,16 @@ fn replace(state: &mut [u8; STATE], m: usize, i: usize, left: usize, right: usiz
     state[2] = m as u8;
 }
 
+// Whether N and T are those of P1.
+fn is_p1(n: u8, t: u8) -> bool
+    ensures { λ r. ⌜ Tells r (OfPart p1 n t) ⌝ }
+{
+    if n != P1_COLUMNS {
+        return false;
+    }
+    wide(t) == P1_TRACKS
+}
+
 // Makes a state for N and T with no connection. Refused by 2 outside their limits.
 pub fn make(state: &mut [u8; STATE], columns: usize, tracks: usize) -> Answer
     ensures { λ r. ⌜ Makes columns tracks (now (state .entry)) r (now (state .exit)) ⌝ }
@@ -354,9 +372,9 @@ pub fn clear(state: &mut [u8; STATE])
 
 // Appends a connection. Refused by 2 for a full list and by 5, at its number, for bad columns.
 pub fn add(state: &mut [u8; STATE], left: usize, right: usize, mark: u8) -> Answer
-    ensures { λ r. ⌜ (length (now (state .entry)) ≡ stateBytes → Does (now (state .entry)) (add (record { left = left; right = right; mark = mark })) r (now (state .exit))) ⌝ }
+    ensures { λ r. ⌜ Does (now (state .entry)) (add (record { left = left; right = right; mark = mark })) r (now (state .exit)) ⌝ }
 {
-    let m = count(state[2]);
+    let m = count(state);
     if MOST_CONNECTIONS <= m {
         return Answer::Refused {
             number: 2,
@@ -375,9 +393,9 @@ pub fn add(state: &mut [u8; STATE], left: usize, right: usize, mark: u8) -> Answ
 
 // Drops a connection and closes the gap. Refused by 10 for a number that is absent.
 pub fn drop(state: &mut [u8; STATE], number: usize) -> Answer
-    ensures { λ r. ⌜ (length (now (state .entry)) ≡ stateBytes → Does (now (state .entry)) (drop number) r (now (state .exit))) ⌝ }
+    ensures { λ r. ⌜ Does (now (state .entry)) (drop number) r (now (state .exit)) ⌝ }
 {
-    let m = count(state[2]);
+    let m = count(state);
     if !is_there(m, number) {
         return Answer::Refused {
             number: 10,
@@ -390,9 +408,9 @@ pub fn drop(state: &mut [u8; STATE], number: usize) -> Answer
 
 // Changes the columns of a connection in place; it keeps its mark. Refused by 5, at the number, for bad columns and by 10 for a number that is absent.
 pub fn shift(state: &mut [u8; STATE], number: usize, left: usize, right: usize) -> Answer
-    ensures { λ r. ⌜ (length (now (state .entry)) ≡ stateBytes → Does (now (state .entry)) (move number left right) r (now (state .exit))) ⌝ }
+    ensures { λ r. ⌜ Does (now (state .entry)) (move number left right) r (now (state .exit)) ⌝ }
 {
-    let m = count(state[2]);
+    let m = count(state);
     if !is_good(state[0], left, right) {
         return Answer::Refused {
             number: 5,
@@ -422,4 +440,19 @@ pub fn red(state: &[u8; STATE]) -> Sign
         x += 1;
     }
     Sign::Green
+}
+
+// Routes the panel's list on P1 as the editor's entry does; a panel of another shape is refused by 2.
+pub fn route_p1(state: &[u8; STATE], limit: u32, budget: u32, labels: &mut [u8]) -> Verdict
+    ensures { λ v. ⌜ RoutesPanel (now (state .entry)) limit budget (now (labels .entry)) v (now (labels .exit)) ⌝ }
+{
+    if !is_p1(state[0], state[1]) {
+        return Verdict::Refused {
+            number: 2,
+            place: 0,
+        };
+    }
+    let end = LIST + CONNECTION * count(state);
+    let bytes = &state[..];
+    route_list(&bytes[LIST..end], limit, budget, labels)
 }

@@ -22,7 +22,7 @@ use text::put;
 use text::put_text;
 
 // P1's columns, tracks and right ends, and how many of its tracks stand before the performance tracks.
-const P1_COLUMNS: u8 = 30;
+pub const P1_COLUMNS: u8 = 30;
 
 pub const P1_TRACKS: usize = 8;
 

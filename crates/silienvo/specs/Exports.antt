@@ -3,6 +3,7 @@ use mathlib.Core.Path.{_≡_}
 use mathlib.Core.List.{List}
 use Prim.Native.Nat.{ℕ, _*_, _-_}
 use lib.ListN.{length}
+use Rattle.loads.specs.Edits.{Edit}
 use Rattle.jobfile.specs.declared.Read.{Read}
 use Rattle.jobfile.specs.declared.Read.the-variants as read
 use Rattle.jobfile.specs.Rows.{trailerSize, connectionSize}
@@ -28,6 +29,12 @@ use Rattle.reply.specs.declared.Answer.the-variants as reply
 use Rattle.reply.specs.Replies.{Replies}
 use Rattle.editor.specs.declared.Connection.{Connection as Record}
 use Rattle.editor.specs.Edits.{Edits}
+use Rattle.panel.specs.declared.Answer.{Answer as PanelAnswer}
+use Rattle.panel.specs.declared.Answer.the-variants as done
+use Rattle.panel.specs.declared.Sign.{Sign}
+use Rattle.panel.specs.declared.Sign.the-variants as sign
+use Rattle.panel.specs.Does.{Does, Makes, Signs}
+use Rattle.panel.specs.Routes.{RoutesPanel}
 use Rattle.silienvo.specs.declared.SilienvoAnswer.{SilienvoAnswer}
 use Rattle.silienvo.specs.declared.SilienvoJob.{SilienvoJob}
 
@@ -77,6 +84,15 @@ abbrev pub writtenGiven : Written → SilienvoAnswer
 writtenGiven (written.File n) = given 1 n
 writtenGiven (written.Refused num place) = refusal num place
 
+-- a panel's: 1 done; of its colour, 1 green, 2 red with the column
+abbrev pub doneGiven : PanelAnswer → SilienvoAnswer
+doneGiven done.Done = given 1 0
+doneGiven (done.Refused num place) = refusal num place
+
+abbrev pub signGiven : Sign → SilienvoAnswer
+signGiven sign.Green = given 1 0
+signGiven (sign.Red r) = given 2 r
+
 -- each export says what the function that it wraps says; and of a job its start and length tell where its connections stand
 pub record ReadSays (f : List ℕ) (r : SilienvoJob) : Type 0 where
   pub answer : Read
@@ -117,4 +133,24 @@ pub record PartSays (bytes : List ℕ) (k : ℕ) (old : List ℕ) (r : SilienvoA
 pub record EditSays (cs : List Record) (k b : ℕ) (old : List ℕ) (r : SilienvoAnswer) (new : List ℕ) : Type 0 where
   pub answer : Verdict
   pub says : Edits cs k b old answer new
+  pub is : r ≡ verdictGiven answer
+
+pub record MakeSays (n t : ℕ) (s : List ℕ) (r : SilienvoAnswer) (s′ : List ℕ) : Type 0 where
+  pub answer : PanelAnswer
+  pub says : Makes n t s answer s′
+  pub is : r ≡ doneGiven answer
+
+pub record DoesSays (s : List ℕ) (e : Edit) (r : SilienvoAnswer) (s′ : List ℕ) : Type 0 where
+  pub answer : PanelAnswer
+  pub says : Does s e answer s′
+  pub is : r ≡ doneGiven answer
+
+pub record RedSays (s : List ℕ) (r : SilienvoAnswer) : Type 0 where
+  pub answer : Sign
+  pub says : Signs s answer
+  pub is : r ≡ signGiven answer
+
+pub record PanelRouteSays (s : List ℕ) (k b : ℕ) (old : List ℕ) (r : SilienvoAnswer) (new : List ℕ) : Type 0 where
+  pub answer : Verdict
+  pub says : RoutesPanel s k b old answer new
   pub is : r ≡ verdictGiven answer

@@ -1,10 +1,14 @@
 // The exports for C: each public entry on numbers and slices, with an answer of plain numbers. include/silienvo.h says the same in plain words.
 // A slice passes as a pointer and a length. No function has a precondition.
 ghost use mathlib.Core.Path.{_≡_};
-ghost use Rattle.silienvo.specs.Exports.{refusal, given, jobGiven, verdictGiven, judgementGiven, rowsGiven, lineGiven, replyGiven, writtenGiven, ReadSays, RouteSays, JudgeSays, RowsSays, LineSays, ReplySays, PartSays, EditSays};
+ghost use Rattle.loads.specs.Edits.{clear, add, drop, move};
+ghost use Rattle.panel.specs.Does.{Becomes};
+ghost use Rattle.silienvo.specs.Exports.{refusal, given, jobGiven, verdictGiven, judgementGiven, rowsGiven, lineGiven, replyGiven, writtenGiven, doneGiven, signGiven, ReadSays, RouteSays, JudgeSays, RowsSays, LineSays, ReplySays, PartSays, EditSays, MakeSays, DoesSays, RedSays, PanelRouteSays};
 ghost use Rattle.silienvo.specs.Fits.{ReadFits};
 use jobfile::Read;
 use judge::Judgement;
+use panel::STATE;
+use panel::Sign;
 use part::Written;
 use route::Verdict;
 use text::wide;
@@ -150,6 +154,24 @@ fn written_given(w: Written) -> SilienvoAnswer
     }
 }
 
+fn done_given(a: panel::Answer) -> SilienvoAnswer
+    ensures { λ r. ⌜ r ≡ doneGiven a ⌝ }
+{
+    match a {
+        panel::Answer::Done => told(1, 0),
+        panel::Answer::Refused { number, place } => refused(number, place),
+    }
+}
+
+fn sign_given(c: Sign) -> SilienvoAnswer
+    ensures { λ r. ⌜ r ≡ signGiven c ⌝ }
+{
+    match c {
+        Sign::Green => told(1, 0),
+        Sign::Red(column) => told(2, column as u64),
+    }
+}
+
 // Reads a job file.
 #[no_mangle]
 pub extern "C" fn silienvo_read(file: &[u8]) -> SilienvoJob
@@ -221,4 +243,79 @@ pub extern "C" fn silienvo_p1_route(
     ensures { λ r. ⌜ EditSays (now (connections .entry)) limit budget (now (labels .entry)) r (now (labels .exit)) ⌝ }
 {
     verdict_given(editor::route_p1(connections, limit, budget, labels))
+}
+
+// Makes a panel for N and T with no connection: kind 1.
+#[no_mangle]
+pub extern "C" fn silienvo_panel_make(
+    panel: &mut [u8; STATE],
+    columns: u64,
+    tracks: u64,
+) -> SilienvoAnswer
+    ensures { λ r. ⌜ MakeSays columns tracks (now (panel .entry)) r (now (panel .exit)) ⌝ }
+{
+    done_given(panel::make(panel, columns as usize, tracks as usize))
+}
+
+// Takes all connections out of a panel.
+#[no_mangle]
+pub extern "C" fn silienvo_panel_clear(panel: &mut [u8; STATE])
+    ensures { λ r. ⌜ Becomes (now (panel .entry)) clear (now (panel .exit)) ⌝ }
+{
+    panel::clear(panel)
+}
+
+// Appends a connection: kind 1.
+#[no_mangle]
+pub extern "C" fn silienvo_panel_add(
+    panel: &mut [u8; STATE],
+    left: u64,
+    right: u64,
+    mark: u8,
+) -> SilienvoAnswer
+    ensures { λ r. ⌜ DoesSays (now (panel .entry)) (add (record { left = left; right = right; mark = mark })) r (now (panel .exit)) ⌝ }
+{
+    done_given(panel::add(panel, left as usize, right as usize, mark))
+}
+
+// Drops a connection and closes the gap: kind 1.
+#[no_mangle]
+pub extern "C" fn silienvo_panel_drop(panel: &mut [u8; STATE], number: u64) -> SilienvoAnswer
+    ensures { λ r. ⌜ DoesSays (now (panel .entry)) (drop number) r (now (panel .exit)) ⌝ }
+{
+    done_given(panel::drop(panel, number as usize))
+}
+
+// Changes the columns of a connection in place: kind 1.
+#[no_mangle]
+pub extern "C" fn silienvo_panel_move(
+    panel: &mut [u8; STATE],
+    number: u64,
+    left: u64,
+    right: u64,
+) -> SilienvoAnswer
+    ensures { λ r. ⌜ DoesSays (now (panel .entry)) (move number left right) r (now (panel .exit)) ⌝ }
+{
+    done_given(panel::shift(panel, number as usize, left as usize, right as usize))
+}
+
+// The colour of a panel: kind 1 green, kind 2 red at the column that is its value.
+#[no_mangle]
+pub extern "C" fn silienvo_panel_red(panel: &[u8; STATE]) -> SilienvoAnswer
+    ensures { λ r. ⌜ RedSays (now (panel .entry)) r ⌝ }
+{
+    sign_given(panel::red(panel))
+}
+
+// Routes a panel's list on P1: kinds as for a file.
+#[no_mangle]
+pub extern "C" fn silienvo_panel_p1_route(
+    panel: &[u8; STATE],
+    limit: u32,
+    budget: u32,
+    labels: &mut [u8],
+) -> SilienvoAnswer
+    ensures { λ r. ⌜ PanelRouteSays (now (panel .entry)) limit budget (now (labels .entry)) r (now (labels .exit)) ⌝ }
+{
+    verdict_given(panel::route_p1(panel, limit, budget, labels))
 }

@@ -17,14 +17,14 @@ use Rattle.panel.proofs.add.Statement.{statement}
 use Rattle.panel.proofs.add.Tie as tie
 
 returns : tie.Need-returns
-returns c h =
+returns c =
     let n = c .before .count in
     let a = c .before .before .before .args in
     let s = now (a .state) in
     (full (nIn s) (listIn s) (record { left = a .left; right = a .right; mark = a .mark }) (room-is s (n .result) (n .ensures .0) ∙ le-ltb (n .result) mostConnections (c .if1 .taken)), refl)
 
 returns-2 : tie.Need-returns-2
-returns-2 c h =
+returns-2 c =
     let p = c .before .before .before in
     let n = p .before .count in
     let a = p .before .before .before .args in
@@ -44,7 +44,7 @@ append-requires c κs =
 
 returns-3 : tie.Need-returns-3
 unfolding accepted
-returns-3 c h =
+returns-3 c =
     let g = c .before .before .before in
     let p = g .before .before in
     let n = p .before .count in
@@ -52,8 +52,8 @@ returns-3 c h =
     let s = now (a .state) in (
       accepted-passes (nIn s) (listIn s) (add (record { left = a .left; right = a .right; mark = a .mark }))
           (and-both (room-is s (n .result) (n .ensures .0) ∙ lt-ltb (n .result) mostConnections (p .if1 .left)) (sym (g .is-good .ensures .0) ∙ not-false _ (c .before .before .if2 .left))),
-      c .append .ensures h (n .ensures .0),
+      c .append .ensures (n .ensures .2) (n .ensures .0),
     )
 
 pub add-spec : {M : Type 1} → statement M
-add-spec = tie.close (tie.spec (search needs) (search needs) returns (search needs) (search needs) (search needs) returns-2 append-requires returns-3)
+add-spec = tie.close (tie.spec (search needs) returns (search needs) (search needs) (search needs) returns-2 append-requires returns-3)

@@ -15,7 +15,7 @@ use Rattle.panel.proofs.drop.Statement.{statement}
 use Rattle.panel.proofs.drop.Tie as tie
 
 returns : tie.Need-returns
-returns c h =
+returns c =
     let n = c .before .before .count in
     let a = c .before .before .before .before .args in
     let s = now (a .state) in
@@ -34,7 +34,7 @@ remove-requires c κs =
 
 returns-2 : tie.Need-returns-2
 unfolding accepted
-returns-2 c h =
+returns-2 c =
     let t = c .before .before .before in
     let n = t .before .count in
     let a = t .before .before .before .args in
@@ -42,8 +42,8 @@ returns-2 c h =
     let there = sym (t .is-there .ensures) ∙ not-false _ (c .before .before .if1 .left) in
     let z : a .number - 1 + 1 ≡ a .number = omega (arith, there-says (a .number) (n .result) there .0) in (
       accepted-passes (nIn s) (listIn s) (drop (a .number)) (there-is s (n .result) (n .ensures .0) (a .number) ∙ there),
-      subst (λ (k : ℕ). Relisted s (edited (drop k) (listIn s)) (c .remove .last .0)) z (c .remove .ensures h (n .ensures .0)),
+      subst (λ (k : ℕ). Relisted s (edited (drop k) (listIn s)) (c .remove .last .0)) z (c .remove .ensures (n .ensures .2) (n .ensures .0)),
     )
 
 pub drop-spec : {M : Type 1} → statement M
-drop-spec = tie.close (tie.spec (search needs) (search needs) (search needs) returns sub-remove remove-requires returns-2)
+drop-spec = tie.close (tie.spec (search needs) (search needs) returns sub-remove remove-requires returns-2)

@@ -16,13 +16,13 @@ use Rattle.panel.proofs.shift.Statement.{statement}
 use Rattle.panel.proofs.shift.Tie as tie
 
 returns : tie.Need-returns
-returns c h =
+returns c =
     let a = c .before .before .before .before .before .args in
     let s = now (a .state) in
     (bad-move (nIn s) (listIn s) (a .number) (a .left) (a .right) (sym (c .before .is-good .ensures .0) ∙ not-true _ (c .if1 .taken)), refl)
 
 returns-2 : tie.Need-returns-2
-returns-2 c h =
+returns-2 c =
     let g = c .before .before .before in
     let n = g .before .before .count in
     let a = g .before .before .before .before .args in
@@ -46,7 +46,7 @@ replace-requires c κs =
 
 returns-3 : tie.Need-returns-3
 unfolding accepted
-returns-3 c h =
+returns-3 c =
     let t = c .before .before .before in
     let g = t .before .before in
     let n = g .before .before .count in
@@ -55,8 +55,8 @@ returns-3 c h =
     let there = sym (t .is-there .ensures) ∙ not-false _ (c .before .before .if2 .left) in
     let z : a .number - 1 + 1 ≡ a .number = omega (arith, there-says (a .number) (n .result) there .0) in (
       accepted-passes (nIn s) (listIn s) (move (a .number) (a .left) (a .right)) (and-both (sym (g .is-good .ensures .0) ∙ not-false _ (t .before .if1 .left)) (there-is s (n .result) (n .ensures .0) (a .number) ∙ there)),
-      subst (λ (k : ℕ). Relisted s (edited (move k (a .left) (a .right)) (listIn s)) (c .replace .last .0)) z (c .replace .ensures h (n .ensures .0)),
+      subst (λ (k : ℕ). Relisted s (edited (move k (a .left) (a .right)) (listIn s)) (c .replace .last .0)) z (c .replace .ensures (n .ensures .2) (n .ensures .0)),
     )
 
 pub shift-spec : {M : Type 1} → statement M
-shift-spec = tie.close (tie.spec (search needs) (search needs) (search needs) (search needs) returns (search needs) returns-2 sub-replace replace-requires returns-3)
+shift-spec = tie.close (tie.spec (search needs) (search needs) (search needs) returns (search needs) returns-2 sub-replace replace-requires returns-3)
