@@ -87,6 +87,51 @@ static void print_p1(void) {
     print_verdict("P1", silienvo_p1_route(records, 2, 3, BUDGET, labels, sizeof labels), labels, 2);
 }
 
+static void print_panel(const SilienvoPanel *panel) {
+    SilienvoAnswer red = silienvo_panel_red(panel);
+    printf("panel: %u connections, loads", panel->connections);
+    for (unsigned column = 1; column <= panel->columns; column++) {
+        printf(" %u", panel->loads[column]);
+    }
+    if (red.kind == SILIENVO_RED) {
+        printf(", red at column %llu\n", (unsigned long long)red.value);
+    } else {
+        printf("\n");
+    }
+}
+
+/* The panel of an editor: two nets over one track, and one net in two pieces. */
+static void edit(void) {
+    SilienvoPanel panel;
+    SilienvoAnswer answer = silienvo_panel_make(&panel, 6, 1);
+    if (answer.kind != SILIENVO_DONE) {
+        refused("panel", answer.number, (unsigned long long)answer.value);
+        return;
+    }
+    silienvo_panel_add(&panel, 1, 4, 2);
+    silienvo_panel_add(&panel, 3, 6, 4);
+    print_panel(&panel);
+    silienvo_panel_drop(&panel, 2);
+    silienvo_panel_add(&panel, 3, 6, 2);
+    print_panel(&panel);
+    silienvo_panel_move(&panel, 1, 1, 1);
+    print_panel(&panel);
+    answer = silienvo_panel_move(&panel, 3, 1, 300);
+    refused("panel", answer.number, (unsigned long long)answer.value);
+    silienvo_panel_clear(&panel);
+    print_panel(&panel);
+}
+
+/* A panel of part P1, routed. */
+static void route_panel(void) {
+    SilienvoPanel panel;
+    uint8_t labels[SILIENVO_MOST_LABELS];
+    silienvo_panel_make(&panel, 30, 8);
+    silienvo_panel_add(&panel, 1, 12, 0);
+    silienvo_panel_add(&panel, 7, 30, 1);
+    print_verdict("panel", silienvo_panel_p1_route(&panel, 3, BUDGET, labels, sizeof labels), labels, panel.connections);
+}
+
 int main(int count, char **words) {
     static uint8_t file[MOST_FILE];
     uint8_t labels[SILIENVO_MOST_LABELS];
@@ -116,6 +161,8 @@ int main(int count, char **words) {
     print_reply(file, length, "s UNKNOWN\n", 10, job.connections);
     print_reply(file, length, "", 0, job.connections);
     print_p1();
+    edit();
+    route_panel();
     if (fflush(stdout) != 0 || ferror(stdout)) {
         fprintf(stderr, "route-c: the answer was not written whole\n");
         return 4;

@@ -15,16 +15,17 @@
  * no byte of a lent buffer, and bytes behind what an answer writes are never touched.
  *
  *    1  the file is shorter than 8 bytes                                                   place 0
- *    2  N, T, M or K outside its limits; P1: connection bytes not a multiple of 3          0
+ *    2  N, T, M or K outside its limits; P1: connection bytes not a multiple of 3, or a    0
+ *       panel of another N or T; a panel whose list is full
  *    3  a distance in the trailer is wrong                                                 0
  *    4  a track record breaks its rule or runs into the connections; bytes left over       the track; T + 1 for left over
- *    5  a connection breaks its rule                                                       the connection
+ *    5  a connection breaks its rule                                                       the connection; on a panel the number given, M + 1 for one added
  *    9  the lent buffer is too short: M bytes for labels, 62 for a line, 16 for each       0
  *       connection's row, a whole P1 file
  *    6  a reply's line is not well-formed; or its s, v and 0 rules are broken              the line, from 1; 0
  *    7  a literal's variable is above V or was seen before; else variables are missing     the position, from 1; one behind the last
  *    8  the model makes a clause false                                                     the first such clause, from 1
- *   10  the line number is above C                                                         0
+ *   10  the line number is above C; a panel has no connection of the number               0
  *   11  not M labels; or not a legal routing                                               0; the first connection that is wrong
  */
 #ifndef SILIENVO_H
@@ -41,20 +42,26 @@ extern "C" {
 enum {
     SILIENVO_REFUSED = 0,
     SILIENVO_JOB = 1,        /* silienvo_read */
-    SILIENVO_ROUTED = 1,     /* silienvo_route, silienvo_p1_route */
+    SILIENVO_ROUTED = 1,     /* silienvo_route, silienvo_p1_route, silienvo_panel_p1_route */
     SILIENVO_UNROUTABLE = 2,
     SILIENVO_UNDECIDED = 3,
     SILIENVO_LEGAL = 1,      /* silienvo_judge */
     SILIENVO_WRITTEN = 1,    /* silienvo_rows, silienvo_line, silienvo_p1_write */
     SILIENVO_ACCEPTED = 1,   /* silienvo_reply */
     SILIENVO_CLAIMED = 2,
-    SILIENVO_UNKNOWN = 3
+    SILIENVO_UNKNOWN = 3,
+    SILIENVO_DONE = 1,       /* silienvo_panel_make, silienvo_panel_add, silienvo_panel_drop, silienvo_panel_move */
+    SILIENVO_GREEN = 1,      /* silienvo_panel_red */
+    SILIENVO_RED = 2
 };
 
 /* Sizes in bytes that are enough for every job: a buffer for labels (M of them are asked), for the rows of a routing (16 for each connection are asked), for a
- * clause line, and for a file of house part P1 (58 and 3 for each connection are asked); and the stack of a call. */
+ * clause line, and for a file of house part P1 (58 and 3 for each connection are asked); the room of a panel's list and of its loads; and the stack of a
+ * call. */
 enum {
     SILIENVO_MOST_LABELS = 64,
+    SILIENVO_MOST_CONNECTIONS = 64,
+    SILIENVO_MOST_LOADS = 256,
     SILIENVO_MOST_ROWS = 1024,
     SILIENVO_LINE = 62,
     SILIENVO_MOST_P1_FILE = 250,
@@ -89,6 +96,19 @@ typedef struct {
     uint8_t mark;
 } SilienvoConnection;
 
+/* The panel of the editor: a list of connections for an N and a T, and for each column its load, how many distinct nets cross it. A connection crosses the
+ * columns from its left to its right, both included; pieces of one net over one column count once, each connection of net 0 by itself.
+ * silienvo_panel_make makes one, and the functions below it change it. After any sequence of their calls, refused ones among them, the loads are true. A
+ * panel is its 451 bytes and nothing else: it may be copied, kept and compared, and any bytes are a panel. What the functions do with one that they did not
+ * make stands at each. */
+typedef struct {
+    uint8_t columns;                                    /* N */
+    uint8_t tracks;                                     /* T */
+    uint8_t connections;                                /* M; above 64 it is read as 64 */
+    SilienvoConnection list[SILIENVO_MOST_CONNECTIONS]; /* the first M */
+    uint8_t loads[SILIENVO_MOST_LOADS];                 /* loads[x] of column x, 1 to N; loads[0] is no column's */
+} SilienvoPanel;
+
 /* Reads a job file. kind SILIENVO_JOB exactly if the file is the encoding of a valid job. Rows 1-5. */
 SilienvoJob silienvo_read(const uint8_t *file, size_t file_length);
 
@@ -122,6 +142,37 @@ SilienvoAnswer silienvo_p1_write(const uint8_t *connections, size_t connections_
 
 /* Routes P1 with these connections exactly as silienvo_route does the file with them. Rows 2, 5, 9 (M bytes of labels); kinds as for silienvo_route. */
 SilienvoAnswer silienvo_p1_route(const SilienvoConnection *connections, size_t count, uint32_t limit, uint32_t budget, uint8_t *labels, size_t labels_length);
+
+/* A panel for N columns and T tracks with no connection: every other byte is 0. Row 2, if N is not 1-255 or T is not 1-36. kind SILIENVO_DONE. */
+SilienvoAnswer silienvo_panel_make(SilienvoPanel *panel, uint64_t columns, uint64_t tracks);
+
+/* Drops all connections: N and T stay, every other byte becomes 0. Never refused. */
+void silienvo_panel_clear(SilienvoPanel *panel);
+
+/* The three edits. kind SILIENVO_DONE: the list is changed as said, and the load of each column with it. A refusal changes nothing. Numbers are taken whole:
+ * 300 is a bad column, and never 44. Connections are numbered from 1. Columns are bad unless 1 <= left <= right <= N.
+ * Any panel, made or not: each load from column 1 on goes one up where the changed list has one net more over its column than the list before (255 stays),
+ * one down where it has one less (0 stays), and else stays; a listed connection with left > right crosses nothing. loads[0], N, T and what stands behind the
+ * list stay; a dropped connection's successors move down by one, and behind the new end every byte stays as it was. */
+
+/* Appends a connection. Rows 2, if there are SILIENVO_MOST_CONNECTIONS already, then 5 with place M + 1, if its columns are bad. Every mark is good. */
+SilienvoAnswer silienvo_panel_add(SilienvoPanel *panel, uint64_t left, uint64_t right, uint8_t mark);
+
+/* Drops the connection of this number and closes the gap. Row 10, if there is none. */
+SilienvoAnswer silienvo_panel_drop(SilienvoPanel *panel, uint64_t number);
+
+/* Gives the connection of this number other columns; its number and its mark stay. Rows 5, with the number given as place, if the columns are bad, then 10, if
+ * there is no such connection. */
+SilienvoAnswer silienvo_panel_move(SilienvoPanel *panel, uint64_t number, uint64_t left, uint64_t right);
+
+/* The first column of 1 to N whose load exceeds T. Never refused. kind SILIENVO_RED: value is the column. SILIENVO_GREEN: there is none, and value is 0.
+ * On a panel that was made and edited, red means that no job with its N, its T and its connections has a legal routing, whatever its segments, its
+ * performance tracks and its K: a routable channel is never red. Green promises no routing. */
+SilienvoAnswer silienvo_panel_red(const SilienvoPanel *panel);
+
+/* Routes the panel's connections on house part P1 exactly as silienvo_p1_route does them: what their job file gives, with the same trials. Rows 2 (also for a
+ * panel whose N and T are not P1's 30 and 8), 5, 9; kinds as for silienvo_route. The panel stays. */
+SilienvoAnswer silienvo_panel_p1_route(const SilienvoPanel *panel, uint32_t limit, uint32_t budget, uint8_t *labels, size_t labels_length);
 
 #ifdef __cplusplus
 }

@@ -12,6 +12,9 @@ enum { PAINTED = 1 << 20, PAINT = 0xa5, TRACKS = 36, SEGMENTS = 32, CONNECTIONS 
 static _Alignas(4096) uint8_t stack[PAINTED];
 static uint8_t file[MOST_FILE], labels[CONNECTIONS], line[SILIENVO_LINE], part[SILIENVO_MOST_P1_FILE], records[3 * CONNECTIONS], rows[SILIENVO_MOST_ROWS];
 static SilienvoConnection edited[CONNECTIONS];
+static SilienvoPanel panel, part_panel, other_panel;
+
+_Static_assert(sizeof(SilienvoPanel) == 451, "a panel has no padding");
 static char reply[4096];
 static size_t length, reply_length;
 
@@ -69,6 +72,26 @@ static void *p1_write(void *_) {
 }
 static void *p1_route(void *_) { answer = silienvo_p1_route(edited, CONNECTIONS, 32, 1000000, labels, sizeof labels); return _; }
 
+/* Pieces of one net over all columns, one short of a full list, so that an edit compares the most. */
+static void make_panels(void) {
+    silienvo_panel_make(&panel, COLUMNS, TRACKS);
+    silienvo_panel_make(&part_panel, 30, 8);
+    for (int c = 0; c < CONNECTIONS; c++) {
+        if (c > 0) {
+            silienvo_panel_add(&panel, 1, COLUMNS, 2);
+        }
+        silienvo_panel_add(&part_panel, edited[c].left, edited[c].right, 0);
+    }
+}
+
+static void *panel_make(void *_) { answer = silienvo_panel_make(&other_panel, COLUMNS, TRACKS); return _; }
+static void *panel_clear(void *_) { silienvo_panel_clear(&other_panel); answer.kind = other_panel.connections == 0; return _; }
+static void *panel_add(void *_) { answer = silienvo_panel_add(&panel, 1, COLUMNS, 2); return _; }
+static void *panel_drop(void *_) { answer = silienvo_panel_drop(&panel, 1); return _; }
+static void *panel_move(void *_) { answer = silienvo_panel_move(&panel, 20, 2, COLUMNS); return _; }
+static void *panel_red(void *_) { answer = silienvo_panel_red(&panel); return _; }
+static void *panel_p1_route(void *_) { answer = silienvo_panel_p1_route(&part_panel, 32, 1000000, labels, sizeof labels); return _; }
+
 static size_t touched(void *(*call)(void *)) {
     pthread_attr_t attributes;
     pthread_t thread;
@@ -90,15 +113,18 @@ int main(void) {
     const struct { const char *name; void *(*call)(void *); } calls[] = {
         {"silienvo_read", job_read}, {"silienvo_route", route}, {"silienvo_judge", judge}, {"silienvo_rows", lines},
         {"silienvo_line", clause}, {"silienvo_reply", replied}, {"silienvo_p1_write", p1_write}, {"silienvo_p1_route", p1_route},
+        {"silienvo_panel_make", panel_make}, {"silienvo_panel_clear", panel_clear}, {"silienvo_panel_add", panel_add}, {"silienvo_panel_move", panel_move},
+        {"silienvo_panel_drop", panel_drop}, {"silienvo_panel_red", panel_red}, {"silienvo_panel_p1_route", panel_p1_route},
     };
     int over = 0;
     make_job();
+    make_panels();
     for (size_t i = 0; i < sizeof calls / sizeof *calls; i++) {
         if (calls[i].call == replied) {
             make_reply();
         }
         size_t bytes = touched(calls[i].call) - touched(nothing);
-        printf("%-18s %7zu bytes of stack%s\n", calls[i].name, bytes, answer.kind == SILIENVO_REFUSED ? ", REFUSED" : "");
+        printf("%-23s %7zu bytes of stack%s\n", calls[i].name, bytes, answer.kind == SILIENVO_REFUSED ? ", REFUSED" : "");
         over += bytes > SILIENVO_STACK || answer.kind == SILIENVO_REFUSED;
     }
     return over > 0 || fflush(stdout) != 0;

@@ -31,6 +31,17 @@ pub struct SilienvoConnection {
     pub mark: u8,
 }
 
+/// The panel of the editor: N, T, M, the connections, of which the first M count, and the load of each column. Any bytes are one.
+#[repr(C)]
+#[derive(Clone, Copy)]
+pub struct SilienvoPanel {
+    pub columns: u8,
+    pub tracks: u8,
+    pub connections: u8,
+    pub list: [SilienvoConnection; 64],
+    pub loads: [u8; 256],
+}
+
 extern "C" {
     pub fn silienvo_read(file: *const u8, file_len: usize) -> SilienvoJob;
     pub fn silienvo_route(file: *const u8, file_len: usize, budget: u32, labels: *mut u8, labels_len: usize) -> SilienvoAnswer;
@@ -47,4 +58,11 @@ extern "C" {
         labels: *mut u8,
         labels_len: usize,
     ) -> SilienvoAnswer;
+    pub fn silienvo_panel_make(panel: *mut SilienvoPanel, columns: u64, tracks: u64) -> SilienvoAnswer;
+    pub fn silienvo_panel_clear(panel: *mut SilienvoPanel);
+    pub fn silienvo_panel_add(panel: *mut SilienvoPanel, left: u64, right: u64, mark: u8) -> SilienvoAnswer;
+    pub fn silienvo_panel_drop(panel: *mut SilienvoPanel, number: u64) -> SilienvoAnswer;
+    pub fn silienvo_panel_move(panel: *mut SilienvoPanel, number: u64, left: u64, right: u64) -> SilienvoAnswer;
+    pub fn silienvo_panel_red(panel: *const SilienvoPanel) -> SilienvoAnswer;
+    pub fn silienvo_panel_p1_route(panel: *const SilienvoPanel, limit: u32, budget: u32, labels: *mut u8, labels_len: usize) -> SilienvoAnswer;
 }

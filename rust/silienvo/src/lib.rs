@@ -1,11 +1,13 @@
 //! The library's C exports (include/silienvo.h) as safe Rust. It decides nothing: every verdict, number and byte comes out of the library.
 
 mod exports;
+mod panel;
 mod refusal;
 
 use std::fmt;
 
 pub use exports::SilienvoConnection as Connection;
+pub use panel::{Panel, PANEL};
 pub use refusal::Refusal;
 
 /// The bytes that a clause line is lent, and each connection's row; the most connections of a job (a label each); the longest file of house part P1.

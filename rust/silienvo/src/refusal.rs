@@ -15,7 +15,7 @@ impl Refusal {
     pub fn meaning(&self) -> &'static str {
         match self.number {
             1 => "the file is shorter than 8 bytes",
-            2 => "N, T, M or K is outside its limits, or connection bytes are not a multiple of 3",
+            2 => "N, T, M or K is outside its limits, connection bytes are not a multiple of 3, or a panel is full or of another N or T",
             3 => "a distance in the trailer is wrong",
             4 => "the track at this place breaks its rule or runs into the connections; one place behind the last track: bytes are left over",
             5 => "the connection at this place breaks its rule",
@@ -23,7 +23,7 @@ impl Refusal {
             7 => "the literal at this place has a variable above V or one seen before; one place behind the last literal: variables are missing",
             8 => "the model makes the clause at this place false",
             9 => "the lent buffer is too short",
-            10 => "the line number is above the number of clauses",
+            10 => "the line number is above the number of clauses, or a panel has no connection of the number",
             11 => "the label at this place is outside 1 to T, barred, or collides with an earlier one; place 0: not M labels",
             _ => "a number that the table does not have",
         }

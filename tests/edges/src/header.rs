@@ -24,23 +24,29 @@ reply: unknown
 reply: refused 6 0
 P1: a file of 64 bytes
 P1: routed after 8 trials: 1 7
+panel: 2 connections, loads 1 1 2 2 1 1, red at column 3
+panel: 2 connections, loads 1 1 1 1 1 1
+panel: 2 connections, loads 1 0 1 1 1 1
+panel: refused 5 3
+panel: 0 connections, loads 0 0 0 0 0 0
+panel: routed after 8 trials: 1 7
 ";
 
 /// The functions that the header declares.
 fn functions(header: &str) -> Vec<&str> {
-    let name = |line: &str| -> Option<usize> { line.starts_with("Silienvo").then(|| line.find('('))? };
-    header.lines().filter_map(|line| line[..name(line)?].split(' ').next_back()).collect()
+    let declared = |line: &&str| line.starts_with("Silienvo") || line.starts_with("void ");
+    header.lines().filter(declared).filter_map(|line| line[..line.find('(')?].split(' ').next_back()).collect()
 }
 
 pub fn run(shell: &Shell, checks: &mut Checks) -> io::Result<()> {
     checks.group("header");
     let header = std::fs::read_to_string(shell.root.join("include/silienvo.h"))?;
     let functions = functions(&header);
-    checks.check(functions.len() >= 8, "the header's functions are found", || format!("{functions:?}"));
-    for program in ["examples/route.c", "tests/stack.c"] {
+    checks.check(functions.len() >= 15, "the header's functions are found", || format!("{functions:?}"));
+    for program in ["examples/route.c", "tests/stack.c", "rust/silienvo/src/exports.rs"] {
         let source = std::fs::read_to_string(shell.root.join(program))?;
         for function in &functions {
-            checks.check(source.contains(&format!("{function}(")), &format!("{program} calls {function}"), String::new);
+            checks.check(source.contains(&format!("{function}(")), &format!("{program} has {function}"), String::new);
         }
     }
     for compiler in COMPILERS {
