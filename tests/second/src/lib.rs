@@ -9,6 +9,7 @@ pub mod boundary;
 pub mod fast;
 pub mod kind;
 pub mod make;
+pub mod panel;
 pub mod protocol;
 pub mod slow;
 

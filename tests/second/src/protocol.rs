@@ -1,7 +1,7 @@
 //! The second router's answers in the words of the probe's protocol.
 
 use crate::{fast, records, slow, Refusal, Replied, Verdict};
-use wire::{Answer, Request};
+use wire::{Answer, Edited, Request};
 
 /// Which of the two answers.
 #[derive(Clone, Copy, Debug, PartialEq, Eq)]
@@ -40,6 +40,14 @@ macro_rules! answers {
                     verdict($way::p1_route(&records(&connections), limit, budget, labels.len()), labels)
                 }
                 Request::Program { input } => Answer::new("", &[], Some($way::program(&input))),
+                Request::Edit { columns, tracks, ops } => edited($way::edit(columns, tracks, &ops)),
+                Request::Panel { panel, ops } => {
+                    let (edited, panel) = $way::panel(&panel, &ops);
+                    Answer::edited("panel", edited, Some(panel.bytes()))
+                }
+                Request::PanelRoute { panel, ops, limit, budget, labels } => {
+                    verdict($way::panel_route(&panel, &ops, limit, budget, labels.len()), labels)
+                }
             }
         }
     };
@@ -66,6 +74,13 @@ fn judge(result: Result<(), Refusal>) -> Answer {
     match result {
         Err(refusal) => refused(refusal, None),
         Ok(()) => Answer::new("legal", &[], None),
+    }
+}
+
+fn edited(result: Result<Vec<Edited>, Refusal>) -> Answer {
+    match result {
+        Err(refusal) => refused(refusal, None),
+        Ok(edited) => Answer::edited("", edited, None),
     }
 }
 

@@ -2,9 +2,14 @@
 //!
 //! Fields are separated by one blank. Bytes are lower-case hex, two digits a byte, and the empty byte string is `-`. Numbers are decimal.
 //! Nothing here knows a rule of the product: a line becomes a `Request`, an `Answer` becomes a line, and `serve` joins the two.
+//!
+//! Beside `edit`, whose panel starts empty, two ops lend a panel's bytes: `panel PANEL OPS`, answered by `panel FIELDS PANEL`, a field for each operation and
+//! the panel after all of them; and `panelroute PANEL OPS K BUDGET BUF`, which routes the edited list on house part P1 and is answered as `p1route`.
 
+mod edit;
 mod serve;
 
+pub use edit::{Edited, Op, PANEL};
 pub use serve::{answer_line, serve};
 
 /// A request of the protocol. Every lent buffer is here as it is before the call.
@@ -18,6 +23,9 @@ pub enum Request {
     P1 { connections: Vec<u8>, limit: u32, buffer: Vec<u8> },
     P1Route { connections: Vec<u8>, limit: u32, budget: u32, labels: Vec<u8> },
     Program { input: Vec<u8> },
+    Edit { columns: u64, tracks: u64, ops: Vec<Op> },
+    Panel { panel: Box<[u8; PANEL]>, ops: Vec<Op> },
+    PanelRoute { panel: Box<[u8; PANEL]>, ops: Vec<Op>, limit: u32, budget: u32, labels: Vec<u8> },
 }
 
 /// What is answered to a line that is no request for this library.
@@ -30,16 +38,17 @@ pub enum Bad {
 }
 
 /// An answer: a word, its numbers, and the whole lent buffer after the call where the op lends one.
-/// The program op has no word: its answer is bytes alone.
+/// The program op has no word: its answer is bytes alone. Nor has `edit`: its answer is what each operation is answered.
 #[derive(Clone, Debug, PartialEq, Eq)]
 pub struct Answer {
     pub word: &'static str,
     pub numbers: Vec<u64>,
+    pub edited: Option<Vec<Edited>>,
     pub buffer: Option<Vec<u8>>,
 }
 
 /// Ops of the protocol that belong to later requests.
-const LATER: [&[u8]; 9] = [b"edit", b"sheet", b"p2", b"p2route", b"burn", b"mend", b"fewest", b"single", b"dogleg"];
+const LATER: [&[u8]; 8] = [b"sheet", b"p2", b"p2route", b"burn", b"mend", b"fewest", b"single", b"dogleg"];
 
 impl Request {
     /// The op's word.
@@ -53,6 +62,9 @@ impl Request {
             Request::P1 { .. } => "p1",
             Request::P1Route { .. } => "p1route",
             Request::Program { .. } => "program",
+            Request::Edit { .. } => "edit",
+            Request::Panel { .. } => "panel",
+            Request::PanelRoute { .. } => "panelroute",
         }
     }
 
@@ -81,6 +93,15 @@ impl Request {
                 Request::P1Route { connections, limit: number32(limit)?, budget: number32(budget)?, labels: bytes(labels)? }
             }
             [b"program", input] => Request::Program { input: bytes(input)? },
+            [b"edit", columns, tracks, ops] => Request::Edit { columns: number64(columns)?, tracks: number64(tracks)?, ops: edit::edits(ops)? },
+            [b"panel", panel, ops] => Request::Panel { panel: lent(panel)?, ops: edit::ops(ops)? },
+            [b"panelroute", panel, ops, limit, budget, labels] => Request::PanelRoute {
+                panel: lent(panel)?,
+                ops: edit::ops(ops)?,
+                limit: number32(limit)?,
+                budget: number32(budget)?,
+                labels: bytes(labels)?,
+            },
             _ => return None,
         })
     }
@@ -121,14 +142,43 @@ impl Request {
                 field(out, labels);
             }
             Request::Program { input } => field(out, input),
+            Request::Edit { .. } | Request::Panel { .. } | Request::PanelRoute { .. } => self.write_edits(out),
         }
         out.push(b'\n');
+    }
+
+    /// The fields of an op on a panel.
+    fn write_edits(&self, out: &mut Vec<u8>) {
+        match self {
+            Request::Edit { columns, tracks, ops } => {
+                decimal(out, *columns);
+                decimal(out, *tracks);
+                text(out, &edit::ops_text(ops));
+            }
+            Request::Panel { panel, ops } => {
+                field(out, &panel[..]);
+                text(out, &edit::ops_text(ops));
+            }
+            Request::PanelRoute { panel, ops, limit, budget, labels } => {
+                field(out, &panel[..]);
+                text(out, &edit::ops_text(ops));
+                decimal(out, u64::from(*limit));
+                decimal(out, u64::from(*budget));
+                field(out, labels);
+            }
+            _ => {}
+        }
     }
 }
 
 impl Answer {
     pub fn new(word: &'static str, numbers: &[u64], buffer: Option<Vec<u8>>) -> Answer {
-        Answer { word, numbers: numbers.to_vec(), buffer }
+        Answer { word, numbers: numbers.to_vec(), edited: None, buffer }
+    }
+
+    /// What the operations on a panel are answered.
+    pub fn edited(word: &'static str, edited: Vec<Edited>, buffer: Option<Vec<u8>>) -> Answer {
+        Answer { word, numbers: Vec::new(), edited: Some(edited), buffer }
     }
 
     /// Writes the answer as a line, LF included.
@@ -136,6 +186,11 @@ impl Answer {
         out.extend_from_slice(self.word.as_bytes());
         for &n in &self.numbers {
             decimal(out, n);
+        }
+        match &self.edited {
+            Some(edited) if self.word.is_empty() => out.extend_from_slice(edit::edited_text(edited).as_bytes()),
+            Some(edited) => text(out, &edit::edited_text(edited)),
+            None => {}
         }
         match &self.buffer {
             Some(buffer) if self.word.is_empty() => hex(out, buffer),
@@ -156,8 +211,12 @@ impl Bad {
 }
 
 fn decimal(out: &mut Vec<u8>, n: u64) {
+    text(out, &n.to_string());
+}
+
+fn text(out: &mut Vec<u8>, text: &str) {
     out.push(b' ');
-    out.extend_from_slice(n.to_string().as_bytes());
+    out.extend_from_slice(text.as_bytes());
 }
 
 fn field(out: &mut Vec<u8>, bytes: &[u8]) {
@@ -186,6 +245,11 @@ pub fn bytes(field: &[u8]) -> Option<Vec<u8>> {
         return None;
     }
     field.chunks_exact(2).map(|pair| Some(digit(pair[0])? << 4 | digit(pair[1])?)).collect()
+}
+
+/// A panel that is lent: as many bytes as it has.
+fn lent(field: &[u8]) -> Option<Box<[u8; PANEL]>> {
+    bytes(field)?.try_into().ok().map(Box::new)
 }
 
 fn digit(b: u8) -> Option<u8> {
@@ -225,11 +289,28 @@ mod tests {
             "p1 0102 33 -",
             "p1route 010200 2 0 ff",
             "program 0a",
+            "edit 6 2 -",
+            "edit 0 18446744073709551615 a:1:300:255,d:0,m:18446744073709551615:1:1,c",
+            &format!("panel {} n:6:2,c", "00".repeat(PANEL)),
+            &format!("panelroute {} - 3 4 aabb", "ff".repeat(PANEL)),
         ] {
             let mut out = Vec::new();
             Request::parse(line.as_bytes()).expect(line).write(&mut out);
             assert_eq!(String::from_utf8(out).unwrap(), format!("{line}\n"));
         }
+    }
+
+    #[test]
+    fn edits_are_answered_a_field_each() {
+        let edited = vec![Edited::Done { loads: vec![1, 0, 255], red: 3 }, Edited::Refused { number: 5, place: 300 }];
+        let line = |answer: Answer| {
+            let mut out = Vec::new();
+            answer.write(&mut out);
+            String::from_utf8(out).unwrap()
+        };
+        assert_eq!(line(Answer::edited("", edited.clone(), None)), "ok:1.0.255:3,refused:5:300\n");
+        assert_eq!(line(Answer::edited("panel", edited, Some(vec![7]))), "panel ok:1.0.255:3,refused:5:300 07\n");
+        assert_eq!(line(Answer::edited("", vec![], None)), "-\n");
     }
 
     #[test]
@@ -253,10 +334,24 @@ mod tests {
             "line - 18446744073709551616 -",
             "p1route 0102 2 0 ff",
             "nothing -",
+            "edit",
+            "edit 6 2",
+            "edit 6 2 ",
+            "edit 6 2 c,",
+            "edit 6 2 c c",
+            "edit 6 2 x",
+            "edit 6 2 a:1:2",
+            "edit 6 2 a:1:2:256",
+            "edit 6 2 a:1:2:-1",
+            "edit 6 2 d:",
+            "edit 6 2 d:18446744073709551616",
+            "edit 18446744073709551616 2 c",
+            "edit 6 2 n:6:2",
+            "panel 00 c",
         ] {
             assert_eq!(Request::parse(line.as_bytes()), Err(Bad::Protocol), "{line:?}");
         }
-        for line in ["edit", "edit 6 2 c", "sheet", "p2 - 1 -", "p2route", "burn", "mend", "fewest", "single", "dogleg x"] {
+        for line in ["sheet", "p2 - 1 -", "p2route", "burn", "mend", "fewest", "single", "dogleg x"] {
             assert_eq!(Request::parse(line.as_bytes()), Err(Bad::NoSuchOp), "{line:?}");
         }
     }

@@ -136,7 +136,7 @@ impl Question<'_> {
     }
 }
 
-/// The question of a request; the program has none.
+/// The question of a request; the program and the panel have none.
 fn question(request: &Request) -> Option<Question<'_>> {
     let (entry, number, budget, strings): (u8, u64, u32, [&[u8]; 3]) = match request {
         Request::Read { file } => (1, 0, 0, [file, &[], &[]]),
@@ -146,7 +146,7 @@ fn question(request: &Request) -> Option<Question<'_>> {
         Request::Reply { file, text, labels } => (5, 0, 0, [file, text, labels]),
         Request::P1 { connections, limit, buffer } => (6, u64::from(*limit), 0, [connections, &[], buffer]),
         Request::P1Route { connections, limit, budget, labels } => (7, u64::from(*limit), *budget, [connections, &[], labels]),
-        Request::Program { .. } => return None,
+        Request::Program { .. } | Request::Edit { .. } | Request::Panel { .. } | Request::PanelRoute { .. } => return None,
     };
     Some(Question { entry, number, budget: u64::from(budget), strings })
 }

@@ -1,15 +1,17 @@
 //! The same entries by other means, for jobs on which the definitions would take too long: a track's segments are the bits of a word, the search
-//! stops at the budget, clauses are counted and never listed, a reply is read byte by byte.
+//! stops at the budget, clauses are counted and never listed, a reply is read byte by byte, loads are carried along.
 
 mod channel;
 mod clauses;
 mod file;
+mod panel;
 mod part;
 mod reply;
 mod search;
 
 pub use channel::Channel;
 pub use clauses::{count, text};
+pub use panel::{edit, panel, panel_route, Kept};
 pub use search::search;
 
 use crate::{Connection, Job, Refusal, Replied, Verdict, PROGRAM_BUDGET, PROGRAM_BYTES};

@@ -4,6 +4,7 @@ mod channel;
 mod clauses;
 mod file;
 mod need;
+mod panel;
 mod part;
 mod reply;
 mod rows;
@@ -11,6 +12,7 @@ mod rows;
 pub use channel::{barred, collide, legal, legal_upto, occupied, segments, share, Segment};
 pub use clauses::{clauses, false_under, lines, width, Clause};
 pub use need::{first_routing, need, routings, Need};
+pub use panel::{edit, load, panel, panel_route};
 pub use part::p1_job;
 
 use crate::{Connection, Job, Refusal, Replied, Verdict, PROGRAM_BUDGET, PROGRAM_BYTES};

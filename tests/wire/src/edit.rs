@@ -1,0 +1,88 @@
+//! Operations on the editor's panel and what each is answered, as fields of the protocol: operations are joined by commas, and so are their answers; none
+//! at all is `-`. An operation has a letter and its numbers, `a:L:R:MARK`, `d:I`, `m:I:L:R`, `c`, and on lent bytes also `n:N:T`, which makes a panel.
+
+use crate::number64;
+
+/// The bytes of a panel.
+pub const PANEL: usize = 451;
+
+#[derive(Clone, Copy, Debug, PartialEq, Eq)]
+pub enum Op {
+    Make { columns: u64, tracks: u64 },
+    Clear,
+    Add { left: u64, right: u64, mark: u8 },
+    Drop { number: u64 },
+    Move { number: u64, left: u64, right: u64 },
+}
+
+/// What an operation is answered: `ok:LOADS:RED`, the loads of columns 1 to N joined by `.` and the first red column or 0; or `refused:NO:PLACE`.
+#[derive(Clone, Debug, PartialEq, Eq)]
+pub enum Edited {
+    Done { loads: Vec<u8>, red: u64 },
+    Refused { number: u32, place: u64 },
+}
+
+impl Op {
+    fn parse(text: &[u8]) -> Option<Op> {
+        let parts: Vec<&[u8]> = text.split(|&b| b == b':').collect();
+        let (letter, numbers) = parts.split_first()?;
+        let numbers = numbers.iter().map(|part| number64(part)).collect::<Option<Vec<u64>>>()?;
+        Some(match (*letter, &numbers[..]) {
+            (b"n", &[columns, tracks]) => Op::Make { columns, tracks },
+            (b"c", &[]) => Op::Clear,
+            (b"a", &[left, right, mark]) => Op::Add { left, right, mark: mark.try_into().ok()? },
+            (b"d", &[number]) => Op::Drop { number },
+            (b"m", &[number, left, right]) => Op::Move { number, left, right },
+            _ => return None,
+        })
+    }
+
+    fn text(&self) -> String {
+        match self {
+            Op::Make { columns, tracks } => format!("n:{columns}:{tracks}"),
+            Op::Clear => "c".to_string(),
+            Op::Add { left, right, mark } => format!("a:{left}:{right}:{mark}"),
+            Op::Drop { number } => format!("d:{number}"),
+            Op::Move { number, left, right } => format!("m:{number}:{left}:{right}"),
+        }
+    }
+}
+
+impl Edited {
+    fn text(&self) -> String {
+        match self {
+            Edited::Done { loads, red } => format!("ok:{}:{red}", joined(loads.iter().map(u8::to_string), ".")),
+            Edited::Refused { number, place } => format!("refused:{number}:{place}"),
+        }
+    }
+}
+
+fn joined(texts: impl Iterator<Item = String>, by: &str) -> String {
+    let texts: Vec<String> = texts.collect();
+    if texts.is_empty() {
+        "-".to_string()
+    } else {
+        texts.join(by)
+    }
+}
+
+/// Operations on any panel.
+pub fn ops(field: &[u8]) -> Option<Vec<Op>> {
+    match field {
+        b"-" => Some(Vec::new()),
+        _ => field.split(|&b| b == b',').map(Op::parse).collect(),
+    }
+}
+
+/// Operations on a panel that is made already.
+pub fn edits(field: &[u8]) -> Option<Vec<Op>> {
+    ops(field).filter(|ops| !ops.iter().any(|op| matches!(op, Op::Make { .. })))
+}
+
+pub fn ops_text(ops: &[Op]) -> String {
+    joined(ops.iter().map(Op::text), ",")
+}
+
+pub fn edited_text(edited: &[Edited]) -> String {
+    joined(edited.iter().map(Edited::text), ",")
+}
