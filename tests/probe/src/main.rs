@@ -1,8 +1,9 @@
-//! The probe: each request line becomes one call of an exported function, and its answer one line.
+//! The probe: each request line becomes one call of an exported function, or a call for each operation on a panel, and its answer one line.
 //!
 //! It decides nothing itself. The program op runs the built routing program: target/bin/router of the repository that the probe was built in,
 //! or the one that SILIENVO_ROUTER names.
 
+mod edit;
 mod program;
 
 use silienvo::{Connection, Refusal, Replied, Verdict};
@@ -43,6 +44,9 @@ fn answer(request: Request, router: Option<&std::path::Path>) -> Result<Answer, 
             let printed = router.and_then(|router| program::run(router, &input)).ok_or(Bad::NoSuchOp)?;
             Answer::new("", &[], Some(printed))
         }
+        Request::Edit { columns, tracks, ops } => edit::edit(columns, tracks, &ops),
+        Request::Panel { panel, ops } => edit::panel(&panel, &ops),
+        Request::PanelRoute { panel, ops, limit, budget, mut labels } => verdict(edit::route(&panel, &ops, limit, budget, &mut labels), labels),
     })
 }
 
