@@ -1,23 +1,24 @@
 //! How often each answer was given by each op, and each limit met. None that can be given may stay at 0.
 
-use second::kind::kind;
+use second::kind::kinds;
 use second::make::MARKS;
 use std::collections::BTreeMap;
 use wire::Request;
 
-const OPS: [&str; 8] = ["read", "route", "judge", "line", "reply", "p1", "p1route", "program"];
+const OPS: [&str; 11] = ["read", "route", "judge", "line", "reply", "p1", "p1route", "program", "edit", "panel", "panelroute"];
 
 /// Rows of the table, and the ops that can give them. Answers are counted once: behind `nets` stand those to jobs in which a net above 0 occurs twice, and
-/// behind `by nets alone` the routings of such jobs in which two pieces share a segment. Without the rule about nets these would not be legal.
-const ROWS: [(&str, &[&str]); 41] = [
+/// behind `by nets alone` the routings of such jobs in which two pieces share a segment. Without the rule about nets these would not be legal. Each operation on
+/// a panel is counted by its answer and by what it did: `a piece` shares a column with another of its net, where its load does not follow it alone.
+const ROWS: [(&str, &[&str]); 63] = [
     ("job", &["read"]),
-    ("routed", &["route", "p1route", "program"]),
-    ("routed, nets", &["route", "p1route", "program"]),
-    ("routed, by nets alone", &["route", "p1route", "program"]),
-    ("unroutable", &["route", "p1route", "program"]),
-    ("unroutable, nets", &["route", "p1route", "program"]),
-    ("undecided", &["route", "p1route", "program"]),
-    ("undecided, nets", &["route", "p1route", "program"]),
+    ("routed", &["route", "p1route", "program", "panelroute"]),
+    ("routed, nets", &["route", "p1route", "program", "panelroute"]),
+    ("routed, by nets alone", &["route", "p1route", "program", "panelroute"]),
+    ("unroutable", &["route", "p1route", "program", "panelroute"]),
+    ("unroutable, nets", &["route", "p1route", "program", "panelroute"]),
+    ("undecided", &["route", "p1route", "program", "panelroute"]),
+    ("undecided, nets", &["route", "p1route", "program", "panelroute"]),
     ("legal", &["judge"]),
     ("legal, nets", &["judge"]),
     ("legal, by nets alone", &["judge"]),
@@ -29,14 +30,34 @@ const ROWS: [(&str, &[&str]); 41] = [
     ("claimed", &["reply"]),
     ("unknown", &["reply"]),
     ("file", &["p1"]),
+    ("done, not red", &["edit", "panel"]),
+    ("done, red", &["edit", "panel"]),
+    ("made", &["panel"]),
+    ("cleared", &["edit", "panel"]),
+    ("added", &["edit", "panel"]),
+    ("added, a piece", &["edit", "panel"]),
+    ("dropped", &["edit", "panel"]),
+    ("dropped, a piece", &["edit", "panel"]),
+    ("moved", &["edit", "panel"]),
+    ("moved, a piece", &["edit", "panel"]),
+    ("done, of no sequence", &["panel"]),
+    ("done, M above 64", &["panel"]),
+    ("a load stays 255", &["panel"]),
+    ("a load stays 0", &["panel"]),
     ("refused 1", &["read", "route", "judge", "line", "reply", "program"]),
-    ("refused 2", &["read", "route", "judge", "line", "reply", "p1", "p1route", "program"]),
+    ("refused 2", &["read", "route", "judge", "line", "reply", "p1", "p1route", "program", "panelroute"]),
+    ("refused 2, sizes", &["edit", "panel"]),
+    ("refused 2, full", &["edit", "panel"]),
+    ("refused 2, another part", &["panelroute"]),
     ("refused 3", &["read", "route", "judge", "line", "reply", "program"]),
     ("refused 3, over 4096", &["program"]),
     ("refused 4, a track", &["read", "route", "judge", "line", "reply", "program"]),
     ("refused 4, left over", &["read", "route", "judge", "line", "reply", "program"]),
-    ("refused 5", &["read", "route", "judge", "line", "reply", "p1", "p1route", "program"]),
-    ("refused 9", &["route", "line", "reply", "p1", "p1route"]),
+    ("refused 5", &["read", "route", "judge", "line", "reply", "p1", "p1route", "program", "panelroute"]),
+    ("refused 5, added", &["edit", "panel"]),
+    ("refused 5, moved", &["edit", "panel"]),
+    ("refused 5, moved, absent", &["edit", "panel"]),
+    ("refused 9", &["route", "line", "reply", "p1", "p1route", "panelroute"]),
     ("refused 6, a line", &["reply"]),
     ("refused 6, the rules", &["reply"]),
     ("refused 7, a literal", &["reply"]),
@@ -47,6 +68,8 @@ const ROWS: [(&str, &[&str]); 41] = [
     ("refused 8, group 3, nets", &["reply"]),
     ("refused 10", &["line"]),
     ("refused 10, nets", &["line"]),
+    ("refused 10, dropped", &["edit", "panel"]),
+    ("refused 10, moved", &["edit", "panel"]),
     ("refused 11, not M", &["judge"]),
     ("refused 11, a label", &["judge"]),
     ("refused 11, collides", &["judge"]),
@@ -54,6 +77,8 @@ const ROWS: [(&str, &[&str]); 41] = [
 ];
 /// The width of a row's name.
 const NAME: usize = 27;
+/// The width of a column.
+const WIDTH: usize = 11;
 
 /// Limits on both sides: what the reader must have said of a file that has this size.
 const LIMITS: [(&str, &str); 10] = [
@@ -79,7 +104,9 @@ pub struct Table {
 
 impl Table {
     pub fn count(&mut self, request: &Request, answer: &[u8]) {
-        *self.cells.entry((request.op(), kind(request, answer))).or_default() += 1;
+        for kind in kinds(request, answer) {
+            *self.cells.entry((request.op(), kind)).or_default() += 1;
+        }
         if let Request::Read { file } = request {
             self.count_limits(file, answer);
         }
@@ -112,16 +139,16 @@ impl Table {
     /// Prints the table; says how many of its cells are 0.
     pub fn print(&self) -> u64 {
         let mut empty = 0;
-        println!("{:<NAME$}{}", "", OPS.map(|op| format!("{op:>9}")).concat());
+        println!("{:<NAME$}{}", "", OPS.map(|op| format!("{op:>WIDTH$}")).concat());
         for (row, ops) in ROWS {
             print!("{row:<NAME$}");
             for op in OPS {
                 let n = self.cells.get(&(op, row.to_string())).copied().unwrap_or(0);
                 if ops.contains(&op) {
-                    print!("{n:>9}");
+                    print!("{n:>WIDTH$}");
                     empty += u64::from(n == 0);
                 } else {
-                    print!("{:>9}", if n == 0 { ".".to_string() } else { format!("{n}?") });
+                    print!("{:>WIDTH$}", if n == 0 { ".".to_string() } else { format!("{n}?") });
                 }
             }
             println!();

@@ -45,3 +45,35 @@ fn one(panel: &mut Panel, op: &Op) -> Edited {
         Ok(()) => Edited::Done { loads: panel.loads().to_vec(), red: panel.red().unwrap_or(0) },
     }
 }
+
+#[cfg(test)]
+mod tests {
+    use super::*;
+    use second::make::{edits, Rng};
+    use wire::Request;
+
+    /// The panel and the operations of a request; of what is not about a panel, none.
+    fn asked(request: Request) -> Option<(Panel, Vec<Op>)> {
+        match request {
+            Request::Edit { columns, tracks, ops } => Some((Panel::new(columns, tracks).ok()?, ops)),
+            Request::Panel { panel, ops } | Request::PanelRoute { panel, ops, .. } => Some((Panel::from_bytes(&panel), ops)),
+            _ => None,
+        }
+    }
+
+    #[test]
+    fn a_refused_edit_changes_no_byte() {
+        let mut rng = Rng::new(23);
+        let mut by_number = [0; 12];
+        for (mut panel, ops) in (0..4_000).flat_map(|_| edits(&mut rng)).filter_map(|one| asked(one.request)) {
+            for op in ops {
+                let before = panel.to_bytes();
+                if let Edited::Refused { number, .. } = one(&mut panel, &op) {
+                    assert_eq!(panel.to_bytes(), before, "{op:?}");
+                    by_number[number as usize] += 1;
+                }
+            }
+        }
+        assert!([2, 5, 10].iter().all(|&number: &usize| by_number[number] > 100), "{by_number:?}");
+    }
+}

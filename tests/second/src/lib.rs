@@ -110,7 +110,7 @@ mod tests {
     fn slow_and_fast_agree() {
         let mut rng = make::Rng::new(1);
         for _ in 0..400 {
-            for asked in make::batch(&mut rng).into_iter().filter(|asked| asked.way == Way::Slow) {
+            for asked in make::batch(&mut rng).into_iter().chain(make::edits(&mut rng)).filter(|asked| asked.way == Way::Slow) {
                 let (slow, fast) = (answer_text(Way::Slow, asked.request.clone()), answer_text(Way::Fast, asked.request.clone()));
                 assert_eq!(String::from_utf8_lossy(&slow), String::from_utf8_lossy(&fast), "{:?}", asked.request);
             }

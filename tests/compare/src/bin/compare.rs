@@ -5,7 +5,7 @@
 
 use compare::{table::Table, talk};
 use second::boundary;
-use second::make::{batch, Rng};
+use second::make::{batch, edits, Asked, Rng};
 use second::protocol::{answer_text, Way};
 use std::io::Write;
 use std::path::{Path, PathBuf};
@@ -70,6 +70,18 @@ struct Sent {
     request: Option<Request>,
 }
 
+/// How many requests a worker makes.
+fn share(options: &Options) -> usize {
+    (options.requests / WORKERS) as usize
+}
+
+/// Requests from a seed, without an end: a batch about a job, then some about a panel, from numbers of their own.
+fn requests(worker: u64, options: &Options) -> impl Iterator<Item = Asked> {
+    let seed = options.seed * WORKERS + worker;
+    let (mut jobs, mut panels) = (Rng::new(seed), Rng::new(seed ^ 1 << 32));
+    std::iter::from_fn(move || Some([batch(&mut jobs), edits(&mut panels)])).flatten().flatten()
+}
+
 /// Sends requests from a seed, and the boundary runs first where this is the first worker.
 fn send(worker: u64, options: &Options, mut out: impl Write, sent: mpsc::Sender<Sent>) -> std::io::Result<()> {
     let mut lines = Vec::new();
@@ -91,15 +103,11 @@ fn send(worker: u64, options: &Options, mut out: impl Write, sent: mpsc::Sender<
             count += 1;
         }
     }
-    let mut rng = Rng::new(options.seed * WORKERS + worker);
-    while count < options.requests / WORKERS {
-        for asked in batch(&mut rng) {
-            let mut line = Vec::new();
-            asked.request.write(&mut line);
-            line.pop();
-            put(line, answer_text(asked.way, asked.request.clone()), Some(asked.request))?;
-            count += 1;
-        }
+    for asked in requests(worker, options).take(share(options).saturating_sub(count)) {
+        let mut line = Vec::new();
+        asked.request.write(&mut line);
+        line.pop();
+        put(line, answer_text(asked.way, asked.request.clone()), Some(asked.request))?;
     }
     out.write_all(&lines)
 }
@@ -152,16 +160,12 @@ fn with_itself(worker: u64, options: &Options, shared: &Shared) -> Table {
             count += 1;
         }
     }
-    let mut rng = Rng::new(options.seed * WORKERS + worker);
-    while count < options.requests / WORKERS {
-        for asked in batch(&mut rng) {
-            let fast = answer_text(Way::Fast, asked.request.clone());
-            let mut line = Vec::new();
-            asked.request.write(&mut line);
-            shared.compare(&line, &answer_text(asked.way, asked.request.clone()), &fast);
-            table.count(&asked.request, &fast);
-            count += 1;
-        }
+    for asked in requests(worker, options).take(share(options).saturating_sub(count)) {
+        let fast = answer_text(Way::Fast, asked.request.clone());
+        let mut line = Vec::new();
+        asked.request.write(&mut line);
+        shared.compare(&line, &answer_text(asked.way, asked.request.clone()), &fast);
+        table.count(&asked.request, &fast);
     }
     table
 }

@@ -33,7 +33,7 @@ fn ends(rng: &mut Rng, columns: usize, segments: usize) -> Vec<u8> {
     inner
 }
 
-fn connection(rng: &mut Rng, shape: &Shape) -> Connection {
+pub fn connection(rng: &mut Rng, shape: &Shape) -> Connection {
     let span = rng.from_to(1, shape.span.min(shape.columns));
     let left = rng.from_to(1, shape.columns - span + 1);
     Connection { left: left as u8, right: (left + span - 1) as u8, mark: u8::from(once_in(rng, shape.critical)) }

@@ -32,7 +32,7 @@ fn perhaps_joined(rng: &mut Rng, make: impl FnOnce(&mut Rng) -> Job) -> Job {
 }
 
 /// A job that is small enough for the definitions.
-fn enumerated(rng: &mut Rng) -> Job {
+pub fn enumerated(rng: &mut Rng) -> Job {
     if rng.once_in(5) {
         crowded(rng)
     } else {
@@ -116,7 +116,7 @@ fn way(rng: &mut Rng, small: bool, n: usize) -> Way {
 }
 
 /// A lent buffer where `asked` bytes are asked.
-fn buffer(rng: &mut Rng, asked: usize) -> Vec<u8> {
+pub fn buffer(rng: &mut Rng, asked: usize) -> Vec<u8> {
     let length = match rng.below(20) {
         0 => asked.saturating_sub(1),
         1 => rng.from_to(0, asked),
@@ -151,7 +151,7 @@ fn about(rng: &mut Rng, subject: &Subject, out: &mut Vec<Asked>) {
 }
 
 /// Any budget where the need is known; else one that the search has the time for.
-fn budget(rng: &mut Rng, verdict: &Verdict) -> u32 {
+pub fn budget(rng: &mut Rng, verdict: &Verdict) -> u32 {
     let (trials, known) = match verdict {
         Verdict::Routed { trials, .. } | Verdict::Unroutable { trials } => (*trials as u32, true),
         Verdict::Undecided { trials } => (*trials as u32, false),

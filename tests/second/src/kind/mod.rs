@@ -1,12 +1,20 @@
 //! Kinds of answers: every verdict, and every row of the table of replies, told apart where a row holds for more than one reason, and by nets.
 
-use crate::fast::{self, Channel};
+mod edits;
+
+use crate::fast::{self, Channel, Kept};
+use crate::panel::Panel;
 use crate::Job;
-use wire::Request;
+use wire::{Op, Request, PANEL};
 
 /// Kinds that the rule about nets has a part in.
 const BY_NETS: [&str; 9] =
     ["routed", "unroutable", "undecided", "legal", "line", "accepted", "refused 8, group 3", "refused 10", "refused 11, collides"];
+
+/// The kinds that an answer is counted by: its own, or those of the operations on a panel, some for each.
+pub fn kinds(request: &Request, answer: &[u8]) -> Vec<String> {
+    edits::kinds(request, &String::from_utf8_lossy(answer)).unwrap_or_else(|| vec![kind(request, answer)])
+}
 
 /// The kind of an answer: its word, or `refused`, the number, and what the number leaves open; then what its job has of nets.
 pub fn kind(request: &Request, answer: &[u8]) -> String {
@@ -49,8 +57,21 @@ fn nets(request: &Request, text: &str) -> Option<&'static str> {
 fn job(request: &Request) -> Option<Job> {
     match request {
         Request::P1Route { connections, limit, .. } => fast::read(&fast::p1(connections, *limit, usize::MAX).ok()?).ok(),
+        Request::PanelRoute { panel, ops, limit, .. } => {
+            let connections: Vec<u8> = edited(panel, ops).list.iter().flat_map(|c| [c.left, c.right, c.mark]).collect();
+            fast::read(&fast::p1(&connections, *limit, usize::MAX).ok()?).ok()
+        }
         _ => fast::read(file(request)?).ok(),
     }
+}
+
+/// A panel after operations.
+fn edited(panel: &[u8; PANEL], ops: &[Op]) -> Kept {
+    let mut kept = Kept::of(Panel::of(panel));
+    for &op in ops {
+        let _ = kept.operate(op);
+    }
+    kept
 }
 
 /// The labels of a legal routing, where the answer has one.
@@ -73,6 +94,10 @@ fn shared(channel: &Channel, labels: &[u8]) -> bool {
 
 fn detail(request: &Request, number: &str, place: u64) -> Option<&'static str> {
     match (number, request) {
+        ("2", Request::PanelRoute { panel, ops, .. }) => {
+            let Panel { columns, tracks, .. } = edited(panel, ops).panel;
+            ((columns, tracks) != (30, 8)).then_some("another part")
+        }
         ("3", Request::Program { input }) if input.len() > 4096 => Some("over 4096"),
         ("4", _) => {
             let file = file(request)?;
