@@ -1,6 +1,8 @@
 //! Requests whose answers are written here by hand, from the product's documents: their examples, and the limits on both sides.
 
+mod lent;
 mod nets;
+mod panel;
 
 use crate::{Connection, Job, Track};
 
@@ -42,6 +44,8 @@ pub fn requests() -> Vec<(String, String)> {
     limits(&mut all);
     part(&mut all);
     program(&mut all);
+    panel::add_all(&mut all);
+    lent::add_all(&mut all);
     protocol(&mut all);
     all
 }
