@@ -22,11 +22,12 @@ struct Command {
     run: fn(&[OsString], &mut Output) -> Result<Status, Failure>,
 }
 
-const COMMANDS: [Command; 8] = [
+const COMMANDS: [Command; 9] = [
     Command { name: "route", takes: "[--budget N] FILE...", does: "routes jobs: the verdict and the rows, or a line a file", run: flow::route },
     Command { name: "judge", takes: "FILE LABELS", does: "judges a routing, a label a connection: 1,2,1", run: tell::judge },
     Command { name: "clauses", takes: "FILE", does: "writes the clauses for a solver, as DIMACS", run: tell::clauses },
     Command { name: "reply", takes: "FILE < REPLY", does: "reads a solver's reply: the rows if it is accepted", run: tell::reply },
+    Command { name: "loads", takes: "FILE", does: "tells how many nets cross each column, and the first column with too many", run: tell::loads },
     Command { name: "p1", takes: "K < TEXT", does: "writes the job file of house part P1, from lines `connection 1 2`", run: text::p1 },
     Command { name: "draw", takes: "[--budget N] FILE", does: "draws a job and its routing, as SVG", run: tell::draw },
     Command { name: "show", takes: "FILE", does: "writes a job as text", run: text::show },

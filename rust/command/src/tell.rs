@@ -4,7 +4,7 @@ use crate::status::{Failure, Status};
 use crate::streams::{self, Output};
 use crate::view::{self, Job};
 use crate::{draw, input};
-use silienvo::{Refusal, Replied, Verdict, LINE, MOST_CONNECTIONS};
+use silienvo::{Panel, Refusal, Replied, Verdict, LINE, MOST_CONNECTIONS};
 use std::ffi::OsString;
 use std::path::Path;
 
@@ -101,6 +101,33 @@ pub fn reply(words: &[OsString], out: &mut Output) -> Result<Status, Failure> {
         },
     };
     out.write(&said)?;
+    Ok(status)
+}
+
+/// The panel of a job's connections.
+fn panel(file: &[u8]) -> Result<Panel, Refusal> {
+    let job = Job::read(file)?;
+    let mut panel = Panel::new(job.columns.into(), job.tracks.len() as u64)?;
+    for connection in &job.connections {
+        panel.add(connection.left.into(), connection.right.into(), connection.mark)?;
+    }
+    Ok(panel)
+}
+
+/// Whether the panel of a job is green or at which column it is red, then each column and its load.
+pub fn loads(words: &[OsString], out: &mut Output) -> Result<Status, Failure> {
+    let panel = match panel(&input::file(input::only(words, "a file")?)?) {
+        Ok(panel) => panel,
+        Err(refusal) => return refused(refusal, out),
+    };
+    let (mut text, status) = match panel.red() {
+        None => ("green\n".to_string(), Status::Good),
+        Some(column) => (format!("red {column}\n"), Status::No),
+    };
+    for (i, load) in panel.loads().iter().enumerate() {
+        text.push_str(&format!("{} {load}\n", i + 1));
+    }
+    out.write(text.as_bytes())?;
     Ok(status)
 }
 

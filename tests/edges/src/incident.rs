@@ -5,7 +5,7 @@ use crate::checks::Checks;
 use crate::shell::{Ended, Shell};
 use second::fast::{self, Channel};
 use second::make::{channel, full, joined, middle, small, spelled, Rng, Shape};
-use second::{Job, Verdict};
+use second::{slow, Job, Verdict};
 use std::io;
 
 const CHANNELS: usize = 1312;
@@ -127,6 +127,20 @@ fn alone(shell: &Shell, checks: &mut Checks, asked: &Asked) -> io::Result<()> {
     Ok(())
 }
 
+/// The loads by the document's words, and that a channel with a routing is green.
+fn loads(shell: &Shell, checks: &mut Checks, asked: &Asked) -> io::Result<()> {
+    let job = fast::read(&asked.file).expect("a channel's job");
+    let load = |&column: &u8| slow::load(&job.connections, column);
+    let red = (1..=job.columns).find(|column| load(column) > job.tracks.len());
+    let lines: String = (1..=job.columns).map(|column| format!("{column} {}\n", load(&column))).collect();
+    let expected = red.map_or((0, format!("green\n{lines}")), |column| (1, format!("red {column}\n{lines}")));
+    let ended = shell.command(&["loads", &asked.name], b"")?;
+    checks.check(same(&ended, &expected), &format!("{}: the loads are {expected:?}", asked.name), || ended.shown());
+    let routed = matches!(asked.verdict, Verdict::Routed { .. });
+    checks.check(!routed || ended.status == Some(0), &format!("{}: what has a routing is green", asked.name), || ended.shown());
+    Ok(())
+}
+
 pub fn run(shell: &Shell, checks: &mut Checks) -> io::Result<()> {
     checks.group("the incident");
     let mut rng = Rng::new(1312);
@@ -137,6 +151,7 @@ pub fn run(shell: &Shell, checks: &mut Checks) -> io::Result<()> {
     flow(shell, checks, &all)?;
     for (i, asked) in all.iter().enumerate() {
         replies(shell, checks, asked, &mut rng)?;
+        loads(shell, checks, asked)?;
         if i % 4 != 3 || i < 100 {
             alone(shell, checks, asked)?;
         }

@@ -8,7 +8,7 @@ use std::io;
 const A: &str = "routed 4\n1 1 1 1\n2 2 2 2\n3 1 2 2\n";
 
 /// A line, its status, and all of its standard output.
-const LINES: [(&str, i32, &str); 91] = [
+const LINES: [(&str, i32, &str); 102] = [
     ("./route < examples/a.job", 0, A),
     ("./route < examples/b.job", 1, "unroutable 10\n"),
     ("./route < undecided.job", 2, "undecided 1000000\n"),
@@ -93,6 +93,17 @@ const LINES: [(&str, i32, &str); 91] = [
     ("printf 'columns 6\\nlimit 2\\ntrack 3 x\\n' | ./silienvo job", 4, ""),
     ("printf 'columns 6\\ntrack 3 6\\n' | ./silienvo job", 4, ""),
     ("./silienvo job < .", 4, ""),
+    ("./silienvo loads examples/a.job", 0, "green\n1 1\n2 1\n3 1\n4 2\n5 2\n6 1\n"),
+    ("./silienvo loads examples/b.job", 1, "red 4\n1 0\n2 0\n3 1\n4 3\n5 2\n6 1\n"),
+    ("./silienvo loads net-127.job", 0, "green\n1 0\n2 0\n3 1\n4 2\n5 2\n6 1\n"),
+    ("./silienvo loads none.job", 0, "green\n1 0\n2 0\n3 0\n4 0\n5 0\n6 0\n"),
+    ("./silienvo loads p1.job | tail -n 19 | head -n 2", 0, "12 2\n13 1\n"),
+    ("./silienvo loads cut.job", 3, "refused 3 0\n"),
+    ("./silienvo loads /dev/null", 3, "refused 1 0\n"),
+    ("./silienvo loads .", 4, ""),
+    ("./silienvo loads missing.job", 4, ""),
+    ("./silienvo loads", 4, ""),
+    ("./silienvo loads examples/a.job examples/b.job", 4, ""),
     ("./silienvo draw examples/a.job > a.svg", 0, ""),
     ("./silienvo draw examples/b.job > b.svg", 1, ""),
     ("./silienvo draw undecided.job > undecided.svg", 2, ""),
@@ -103,13 +114,14 @@ const LINES: [(&str, i32, &str); 91] = [
 ];
 
 /// Commands with a good answer: each is given to outputs that do not take it.
-const GOOD: [&str; 8] = [
+const GOOD: [&str; 9] = [
     "./route < examples/a.job",
     "./silienvo route examples/a.job",
     "./silienvo route examples/a.job examples/a.job",
     "./silienvo judge examples/a.job 1,2,1",
     "./silienvo clauses examples/a.job",
     "printf 's SATISFIABLE\\nv -1 2 -3 0\\n' | ./silienvo reply examples/a.job",
+    "./silienvo loads examples/a.job",
     "./silienvo show examples/a.job",
     "./silienvo draw examples/a.job",
 ];
