@@ -1,7 +1,7 @@
-//! Edits of a full panel: the library's, beside the twin and the recount.
+//! Edits of a full panel: the library's, beside the twin and two recounts.
 
-use crate::panel::{Panel, Record, Recount, Twin};
-use crate::{calls, row, seconds, ROUNDS};
+use crate::panel::{by_column, by_connection, Panel, Record, Recount, Twin};
+use crate::{calls, seconds, ROUNDS};
 use std::hint::black_box;
 
 const COLUMNS: u8 = 255;
@@ -81,16 +81,16 @@ fn timed<P: Panel>(list: &List, empty: P) -> [f64; 4] {
     let short = with(empty, &records[..CONNECTIONS - 1]);
     let [left, right, mark] = records[CONNECTIONS - 1];
     let mut panel = short;
-    let best = |edits: f64, edit: &mut dyn FnMut()| {
+    let each = |edits: f64, edit: &mut dyn FnMut()| {
         let n = calls(&mut *edit);
         seconds(n, edit) / edits
     };
-    let add = best(1.0, &mut || {
+    let add = each(1.0, &mut || {
         panel = short;
         black_box(&mut panel).add(left.into(), right.into(), mark).expect("room");
     });
     let mut panel = with(empty, &records);
-    let dropped = best(2.0, &mut || {
+    let dropped = each(2.0, &mut || {
         let [left, right, mark] = panel.connection(NUMBER as usize);
         black_box(&mut panel).drop(NUMBER).expect("a connection");
         black_box(&mut panel).add(left.into(), right.into(), mark).expect("room");
@@ -98,7 +98,7 @@ fn timed<P: Panel>(list: &List, empty: P) -> [f64; 4] {
     let mut panel = with(empty, &records);
     let [from, to, _] = records[NUMBER as usize - 1].map(u64::from);
     let [by_one, far] = list.targets().map(|(left, right)| {
-        best(2.0, &mut || {
+        each(2.0, &mut || {
             black_box(&mut panel).move_to(NUMBER, left, right).expect("good columns");
             black_box(&mut panel).move_to(NUMBER, from, to).expect("good columns");
         })
@@ -106,50 +106,56 @@ fn timed<P: Panel>(list: &List, empty: P) -> [f64; 4] {
     [add, dropped, by_one, far]
 }
 
-/// The three have the same loads after each edit.
-fn agree(list: &List) {
-    let records = list.records();
-    let mut library = with(silienvo::Panel::new(COLUMNS.into(), TRACKS.into()).expect("sizes"), &records);
-    let (mut twin, mut recount) = (with(Twin::new(COLUMNS), &records), with(Recount::new(COLUMNS), &records));
+/// The loads after each edit.
+fn loads_after<P: Panel>(list: &List, empty: P) -> Vec<Vec<u8>> {
+    let mut panel = with(empty, &list.records());
+    let mut loads = vec![panel.loads().to_vec()];
     for (left, right) in list.targets() {
-        library.move_to(NUMBER, left, right).expect("good columns");
-        twin.move_to(NUMBER, left, right).expect("good columns");
-        recount.move_to(NUMBER, left, right).expect("good columns");
-        assert_eq!((library.loads(), library.loads()), (twin.loads(), recount.loads()), "{}", list.name);
-        let [left, right, mark] = twin.connection(NUMBER as usize);
-        let drops = (library.drop(NUMBER).is_ok(), twin.drop(NUMBER).is_some(), recount.drop(NUMBER).is_some());
-        assert_eq!((library.loads(), library.loads(), drops), (twin.loads(), recount.loads(), (true, true, true)), "{}", list.name);
-        library.add(left.into(), right.into(), mark).expect("room");
-        twin.add(left.into(), right.into(), mark).expect("room");
-        recount.add(left.into(), right.into(), mark).expect("room");
-        assert_eq!((library.loads(), library.loads()), (twin.loads(), recount.loads()), "{}", list.name);
+        panel.move_to(NUMBER, left, right).expect("good columns");
+        loads.push(panel.loads().to_vec());
+        let [left, right, mark] = panel.connection(NUMBER as usize);
+        panel.drop(NUMBER).expect("a connection");
+        loads.push(panel.loads().to_vec());
+        panel.add(left.into(), right.into(), mark).expect("room");
+        loads.push(panel.loads().to_vec());
     }
+    loads
 }
 
-fn least(a: [f64; 4], b: [f64; 4]) -> [f64; 4] {
-    std::array::from_fn(|i| a[i].min(b[i]))
+fn library() -> silienvo::Panel {
+    silienvo::Panel::new(COLUMNS.into(), TRACKS.into()).expect("sizes of a panel")
+}
+
+/// The best of all rounds, in turn: the library, the twin, and the two recounts, which all have the same loads.
+fn best(list: &List) -> [[f64; 4]; 4] {
+    let (twin, columns, connections) = (Twin::new(COLUMNS), Recount::new(COLUMNS, by_column), Recount::new(COLUMNS, by_connection));
+    let loads = loads_after(list, library());
+    let others = [loads_after(list, twin), loads_after(list, columns), loads_after(list, connections)];
+    assert!(others.iter().all(|other| *other == loads), "{}", list.name);
+    let mut best = [[f64::MAX; 4]; 4];
+    for _ in 0..ROUNDS {
+        let times = [timed(list, library()), timed(list, twin), timed(list, columns), timed(list, connections)];
+        for (best, time) in best.iter_mut().flatten().zip(times.into_iter().flatten()) {
+            *best = best.min(time);
+        }
+    }
+    best
 }
 
 pub fn run() {
-    println!("Edits of a full panel, 64 connections over 255 columns. `ratio`: an edit of the library by one of the twin; `recount`: by one that counts all");
-    println!(
-        "columns again. An add is timed with the copy of the panel that it is done on; drops and moves with what undoes them, half of the time each."
-    );
+    println!("Edits of a full panel, 64 connections over 255 columns. `ratio`: an edit of the library by one of the twin; `recount`: by one that counts again column");
+    println!("by column; `quickest`: by one that counts again connection by connection. An add is timed with the copy of the panel that it is done on, drops and");
+    println!("moves with what undoes them, half of the time each.");
     for list in LISTS {
-        agree(&list);
-        let empty = silienvo::Panel::new(COLUMNS.into(), TRACKS.into()).expect("sizes");
-        let mut best = [[f64::MAX; 4]; 3];
-        for _ in 0..ROUNDS {
-            best[0] = least(best[0], timed(&list, empty));
-            best[1] = least(best[1], timed(&list, Twin::new(COLUMNS)));
-            best[2] = least(best[2], timed(&list, Recount::new(COLUMNS)));
-        }
-        println!("{:<51} {:>15} {:>11} {:>13}", list.name, "library", "twin", "recount");
+        let best = best(&list);
+        println!("{:<20} {:<30} {:>11} {:>11} {:>11} {:>11}", list.name, "ns an edit", "library", "twin", "recount", "quickest");
         for (i, edit) in ["add", "drop", "move-by-one", "move-far"].into_iter().enumerate() {
-            let [library, twin, recount] = [0, 1, 2].map(|who| best[who][i]);
-            row(&format!("ns, {edit}, {:.0} a second", 1.0 / library), [library, twin, recount].map(|seconds| seconds * 1e9));
+            let [library, twin, recount, quickest] = [0, 1, 2, 3].map(|who| best[who][i] * 1e9);
+            let what = format!("{edit}, {:.0} a second", 1e9 / library);
+            println!("{:<20} {what:<30} {library:>11.2} {twin:>11.2} {recount:>11.2} {quickest:>11.2}", "");
             println!("{} {edit} ratio {:.2}", list.name, library / twin);
             println!("{} {edit} recount {:.3}", list.name, library / recount);
+            println!("{} {edit} quickest {:.3}", list.name, library / quickest);
         }
     }
 }

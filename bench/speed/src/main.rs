@@ -1,6 +1,6 @@
 //! Times the library's entries. The search is timed beside two routers in safe Rust: the twin, which has the library's algorithm (a table made once a
 //! call), and the plain one that a user would write (it walks the segments at each trial). Five times each in turn, the best of each; then the clause
-//! lines of a largest channel, replies, short and long, and edits of a full panel, beside a twin and a recount. What a call does before its first trial is
+//! lines of a largest channel, replies, short and long, and edits of a full panel, beside a twin and two recounts. What a call does before its first trial is
 //! timed by a call with the budget 0 and is not in the time of a trial. `ratio` is to the twin, `plain` to the plain one; where a call has too few trials to
 //! time them, whole calls are printed and no ratio.
 
@@ -93,7 +93,7 @@ fn search(job: &Timed) {
 }
 
 fn row(what: &str, [library, twin, plain]: [f64; 3]) {
-    println!("{:<20} {what:<34} {library:>11.2} {twin:>11.2} {plain:>13.2}", "");
+    println!("{:<20} {what:<30} {library:>15.2} {twin:>11.2} {plain:>13.2}", "");
 }
 
 fn lines(file: &[u8]) {

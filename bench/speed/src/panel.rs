@@ -1,5 +1,6 @@
 //! The editor's panel in safe Rust. The twin has the library's algorithm: an edit walks the columns that change, and if its connection is a piece of a net
-//! the list once, for how far the other pieces reach. The recount is what an editor does first: it changes its list and counts every column again.
+//! the list once, for how far the other pieces reach. A recount changes its list and counts everything again: column by column, which is what an editor does
+//! first, or connection by connection, which is the quickest that we know.
 
 #![forbid(unsafe_code)]
 
@@ -145,60 +146,92 @@ impl Panel for Twin {
     }
 }
 
+/// All loads of a list.
+type Count = fn(&[Record], u8) -> [u8; COLUMNS];
+
 #[derive(Clone, Copy)]
-pub struct Recount(State);
+pub struct Recount {
+    state: State,
+    count: Count,
+}
 
 impl Recount {
-    pub fn new(columns: u8) -> Recount {
-        Recount(State::new(columns))
+    pub fn new(columns: u8, count: Count) -> Recount {
+        Recount { state: State::new(columns), count }
     }
 
-    /// Every column again: the nets that were seen over it, as bits.
-    fn count(&mut self) {
-        let mut seen = [0u128; COLUMNS];
-        self.0.loads = [0; COLUMNS];
-        for [left, right, mark] in &self.0.list[..self.0.count] {
-            let columns = usize::from(*left)..=usize::from(*right);
-            let bit = if mark / 2 == 0 { 0 } else { 1u128 << (mark / 2) };
-            for (load, seen) in self.0.loads[columns.clone()].iter_mut().zip(&mut seen[columns]) {
-                *load += u8::from(*seen & bit == 0);
-                *seen |= bit;
+    fn recount(&mut self) {
+        self.state.loads = (self.count)(&self.state.list[..self.state.count], self.state.columns);
+    }
+}
+
+/// For each column the nets that were seen over it, as bits.
+pub fn by_column(list: &[Record], columns: u8) -> [u8; COLUMNS] {
+    let mut loads = [0; COLUMNS];
+    for x in 1..=columns {
+        let (mut load, mut seen) = (0, 0u128);
+        for &[left, right, mark] in list {
+            let net = mark / 2;
+            if left <= x && x <= right && (net == 0 || seen >> net & 1 == 0) {
+                load += 1;
+                seen |= 1 << net;
             }
         }
+        loads[usize::from(x)] = load;
     }
+    loads
+}
+
+/// For each connection its columns, and none of them asked where it is on its own.
+pub fn by_connection(list: &[Record], _: u8) -> [u8; COLUMNS] {
+    let (mut loads, mut seen) = ([0; COLUMNS], [0u128; COLUMNS]);
+    for &[left, right, mark] in list {
+        let columns = usize::from(left)..=usize::from(right);
+        if mark / 2 == 0 {
+            loads[columns].iter_mut().for_each(|load| *load += 1);
+            continue;
+        }
+        let net = 1 << (mark / 2);
+        for (load, seen) in loads[columns.clone()].iter_mut().zip(&mut seen[columns]) {
+            *load += u8::from(*seen & net == 0);
+            *seen |= net;
+        }
+    }
+    loads
 }
 
 impl Panel for Recount {
     fn add(&mut self, left: u64, right: u64, mark: u8) -> Option<()> {
-        if self.0.count >= ROOM {
+        if self.state.count >= ROOM {
             return None;
         }
-        let (left, right) = self.0.good(left, right)?;
-        self.0.append([left, right, mark]);
-        self.count();
+        let (left, right) = self.state.good(left, right)?;
+        self.state.append([left, right, mark]);
+        self.recount();
         Some(())
     }
 
     fn drop(&mut self, number: u64) -> Option<()> {
-        self.0.close(self.0.there(number)?);
-        self.count();
+        let at = self.state.there(number)?;
+        self.state.close(at);
+        self.recount();
         Some(())
     }
 
     fn move_to(&mut self, number: u64, left: u64, right: u64) -> Option<()> {
-        let (left, right) = self.0.good(left, right)?;
-        let at = self.0.there(number)?;
-        self.0.list[at] = [left, right, self.0.list[at][2]];
-        self.count();
+        let (left, right) = self.state.good(left, right)?;
+        let at = self.state.there(number)?;
+        self.state.list[at] = [left, right, self.state.list[at][2]];
+        self.recount();
         Some(())
     }
 
     fn connection(&self, number: usize) -> Record {
-        self.0.list[number - 1]
+        self.state.list[number - 1]
     }
 
     fn loads(&self) -> &[u8] {
-        &self.0.loads[1..=usize::from(self.0.columns)]
+        &self.state.loads[1..=usize::from(self.state.columns)]
     }
 }
 
@@ -224,12 +257,13 @@ mod tests {
     }
 
     #[test]
-    fn both_edit_as_the_second_router() {
+    fn all_edit_as_the_second_router() {
         let mut rng = Rng::new(10);
         for asked in (0..3_000).flat_map(|_| edits(&mut rng)) {
             let Request::Edit { columns: columns @ 1..=255, ops, .. } = asked.request else { continue };
             same(&mut Twin::new(columns as u8), columns, &ops);
-            same(&mut Recount::new(columns as u8), columns, &ops);
+            same(&mut Recount::new(columns as u8, by_column), columns, &ops);
+            same(&mut Recount::new(columns as u8, by_connection), columns, &ops);
         }
     }
 }

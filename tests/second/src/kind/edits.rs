@@ -76,22 +76,25 @@ fn of_bytes(kept: &Kept, op: Op) -> Vec<&'static str> {
     if after.operate(op).is_err() {
         return vec![];
     }
-    let stays = |load: u8| !matches!(op, Op::Make { .. } | Op::Clear) && (1..256).any(|x| kept.panel.loads[x] == load && stuck(kept, op, x));
     let cases = [
         ("done, of no sequence", !of_a_sequence(kept)),
         ("done, M above 64", usize::from(kept.panel.count) > ROOM),
-        ("a load stays 255", stays(255)),
-        ("a load stays 0", stays(0)),
+        ("a load stays 255", stays(kept, &after, op, 255)),
+        ("a load stays 0", stays(kept, &after, op, 0)),
     ];
     cases.into_iter().filter(|(_, holds)| *holds).map(|(case, _)| case).collect()
 }
 
-/// Whether the byte of a column would move if it could: it does where it is another.
-fn stuck(kept: &Kept, op: Op, column: usize) -> bool {
-    let (mut same, mut other) = (kept.clone(), kept.clone());
-    other.panel.loads[column] = 100;
-    let _ = (same.operate(op), other.operate(op));
-    same.panel.loads[column] == kept.panel.loads[column] && other.panel.loads[column] != 100
+/// Whether a byte of this load would have moved if it could: it does where all loads are 100.
+fn stays(before: &Kept, after: &Kept, op: Op, load: u8) -> bool {
+    if matches!(op, Op::Make { .. } | Op::Clear) {
+        return false;
+    }
+    let mut free = before.clone();
+    free.panel.loads.fill(100);
+    let _ = free.operate(op);
+    let at = |kept: &Kept, column: usize| kept.panel.loads[column];
+    (1..256).any(|column| at(&free, column) != 100 && [at(before, column), at(after, column)] == [load, load])
 }
 
 /// Whether adding the connections to an empty panel gives these loads.
