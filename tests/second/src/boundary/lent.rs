@@ -19,6 +19,7 @@ pub fn add_all(all: &mut All) {
     counts(all);
     loads(all);
     records(all);
+    moved(all);
     cleared(all);
     routed(all);
 }
@@ -47,6 +48,7 @@ fn loads(all: &mut All) {
     run(all, &bytes([3, 7, 0], &[], &odd), "a:1:3:0", "ok:255.1.8:1", &bytes([3, 7, 1], &[(1, [1, 3, 0])], &up));
     let down = [(0, 9), (1, 254), (3, 7), (4, 1)];
     run(all, &bytes([3, 7, 1], &[(1, [1, 3, 0])], &up), "d:1", "ok:254.0.7:1", &bytes([3, 7, 0], &[(1, [1, 3, 0])], &down));
+    run(all, &bytes([1, 255, 0], &[], &[(1, 254)]), "a:1:1:0", "ok:255:0", &bytes([1, 255, 1], &[(1, [1, 1, 0])], &[(1, 255)]));
     let stays = [(1, 3), (2, 1)];
     run(all, &bytes([2, 2, 1], &[(1, [1, 2, 2])], &[(1, 4), (2, 0)]), "m:1:2:2", "ok:3.0:1", &bytes([2, 2, 1], &[(1, [2, 2, 2])], &[(1, 3)]));
     run(all, &bytes([2, 2, 1], &[(1, [1, 2, 2])], &stays), "m:1:1:2", "ok:3.1:1", &bytes([2, 2, 1], &[(1, [1, 2, 2])], &stays));
@@ -77,6 +79,22 @@ fn records(all: &mut All) {
         let pieces = bytes([3, 9, 2], &[(1, [1, 3, 2]), (2, other)], &five);
         run(all, &pieces, "d:1", said, &bytes([3, 9, 1], &[(1, other), (2, other)], &loads));
     }
+}
+
+/// Moves from columns that cross nothing, from column 0 and from behind N; a drop moves all three bytes of those behind it.
+fn moved(all: &mut All) {
+    let five = [(0, 5), (1, 5), (2, 5), (3, 5), (4, 5)];
+    for (record, said, loads) in [
+        ([3, 1, 0], "ok:5.6.6:0", [(0, 5), (1, 5), (2, 6), (3, 6), (4, 5)]),
+        ([255, 254, 0], "ok:5.6.6:0", [(0, 5), (1, 5), (2, 6), (3, 6), (4, 5)]),
+        ([0, 2, 0], "ok:4.5.6:0", [(0, 5), (1, 4), (2, 5), (3, 6), (4, 5)]),
+        ([3, 4, 0], "ok:5.6.5:0", [(0, 5), (1, 5), (2, 6), (3, 5), (4, 4)]),
+    ] {
+        run(all, &bytes([3, 9, 1], &[(1, record)], &five), "m:1:2:3", said, &bytes([3, 9, 1], &[(1, [2, 3, 0])], &loads));
+    }
+    let before = bytes([4, 9, 3], &[(1, [1, 1, 2]), (2, [2, 2, 5]), (3, [3, 3, 9])], &[(1, 1), (2, 1), (3, 1)]);
+    let after = bytes([4, 9, 2], &[(1, [2, 2, 5]), (2, [3, 3, 9]), (3, [3, 3, 9])], &[(2, 1), (3, 1)]);
+    run(all, &before, "d:1", "ok:0.1.1.0:0", &after);
 }
 
 /// What is cleared or made has noughts but for N and T; a refused one is as it was.

@@ -42,11 +42,21 @@ fn lent(rng: &mut Rng, habit: &Habit) -> [u8; PANEL] {
     sequence(rng, habit, &mut kept, length);
     let mut bytes: [u8; PANEL] = kept.panel.bytes().try_into().expect("a panel's bytes");
     let loads = rng.pick(&[0, 1, 254, 255]);
-    match rng.below(8) {
+    match rng.below(9) {
         0 => {}
         1 => bytes[3 + 3 * ROOM..].fill(loads),
         2 => bytes[2] = rng.pick(&[63, 64, 65, 128, 255]),
         3 | 4 => bytes.fill_with(|| rng.byte()),
+        5 => {
+            for _ in 0..rng.from_to(1, 6) {
+                let at = 3 + 3 * rng.below(usize::from(bytes[2]).clamp(1, ROOM));
+                match rng.below(3) {
+                    0 => bytes[at] = 0,
+                    1 => bytes[at + 1] = 255,
+                    _ => bytes.swap(at, at + 1),
+                }
+            }
+        }
         _ => {
             for _ in 0..rng.from_to(1, 4) {
                 let (list, load, any) = (3 + rng.below(3 * ROOM), 3 + 3 * ROOM + rng.below(256), rng.byte());
