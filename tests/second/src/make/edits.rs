@@ -48,6 +48,7 @@ fn lent(rng: &mut Rng, habit: &Habit) -> [u8; PANEL] {
         2 => bytes[2] = rng.pick(&[63, 64, 65, 128, 255]),
         3 | 4 => bytes.fill_with(|| rng.byte()),
         5 => {
+            bytes[3 + 3 * ROOM] = rng.byte();
             for _ in 0..rng.from_to(1, 6) {
                 let at = 3 + 3 * rng.below(usize::from(bytes[2]).clamp(1, ROOM));
                 match rng.below(3) {
