@@ -25,7 +25,7 @@
  *    6  a reply's line is not well-formed; or its s, v and 0 rules are broken              the line, from 1; 0
  *    7  a literal's variable is above V or was seen before; else variables are missing     the position, from 1; one behind the last
  *    8  the model makes a clause false                                                     the first such clause, from 1
- *   10  the line number is above C; a panel has no connection of the number               0
+ *   10  the line number is above C; a panel has no connection of the number                0
  *   11  not M labels; or not a legal routing                                               0; the first connection that is wrong
  */
 #ifndef SILIENVO_H
@@ -152,8 +152,8 @@ void silienvo_panel_clear(SilienvoPanel *panel);
 /* The three edits. kind SILIENVO_DONE: the list is changed as said, and the load of each column with it. A refusal changes nothing. Numbers are taken whole:
  * 300 is a bad column, and never 44. Connections are numbered from 1. Columns are bad unless 1 <= left <= right <= N.
  * Any panel, made or not: each load from column 1 on goes one up where the changed list has one net more over its column than the list before (255 stays),
- * one down where it has one less (0 stays), and else stays; a listed connection with left > right crosses nothing. loads[0], N, T and what stands behind the
- * list stay; a dropped connection's successors move down by one, and behind the new end every byte stays as it was. */
+ * one down where it has one less (0 stays), and else stays; a listed connection with left > right crosses nothing. M becomes the length of the changed list.
+ * loads[0], N, T and what stands behind the list stay: those behind a dropped connection move down by one, and from the new end on every byte is as it was. */
 
 /* Appends a connection. Rows 2, if there are SILIENVO_MOST_CONNECTIONS already, then 5 with place M + 1, if its columns are bad. Every mark is good. */
 SilienvoAnswer silienvo_panel_add(SilienvoPanel *panel, uint64_t left, uint64_t right, uint8_t mark);
