@@ -38,7 +38,7 @@ pub struct SilienvoPanel {
     pub columns: u8,
     pub tracks: u8,
     pub connections: u8,
-    pub list: [SilienvoConnection; 64],
+    pub list: [SilienvoConnection; crate::MOST_CONNECTIONS],
     pub loads: [u8; 256],
 }
 

@@ -4,7 +4,7 @@ use crate::exports::{self, SilienvoPanel};
 use crate::{kind, only, unlisted, verdict, Connection, Refusal, Verdict, MOST_CONNECTIONS};
 
 /// The bytes of a panel.
-pub const PANEL: usize = 451;
+pub const PANEL: usize = std::mem::size_of::<SilienvoPanel>();
 
 /// A list of connections for N columns and T tracks, and for each column its load: how many distinct nets cross it. Pieces of one net over one column count
 /// once, each connection of net 0 by itself. The loads are true after any sequence of edits. Connections are numbered from 1.
