@@ -86,3 +86,48 @@ pub fn ops_text(ops: &[Op]) -> String {
 pub fn edited_text(edited: &[Edited]) -> String {
     joined(edited.iter().map(Edited::text), ",")
 }
+
+#[cfg(test)]
+mod tests {
+    use super::*;
+    use crate::{Answer, Bad, Request};
+
+    #[test]
+    fn a_request_is_written_as_it_is_read() {
+        let (noughts, ones) = ("00".repeat(PANEL), "ff".repeat(PANEL));
+        for line in [
+            "edit 6 2 -",
+            "edit 0 18446744073709551615 a:1:300:255,d:0,m:18446744073709551615:1:1,c",
+            &format!("panel {noughts} n:6:2,c"),
+            &format!("panelroute {ones} - 3 4 aabb"),
+        ] {
+            let mut out = Vec::new();
+            Request::parse(line.as_bytes()).expect(line).write(&mut out);
+            assert_eq!(String::from_utf8(out).unwrap(), format!("{line}\n"));
+        }
+    }
+
+    #[test]
+    fn edits_are_answered_a_field_each() {
+        let edited = vec![Edited::Done { loads: vec![1, 0, 255], red: 3 }, Edited::Refused { number: 5, place: 300 }];
+        let line = |answer: Answer| {
+            let mut out = Vec::new();
+            answer.write(&mut out);
+            String::from_utf8(out).unwrap()
+        };
+        assert_eq!(line(Answer::edited("", edited.clone(), None)), "ok:1.0.255:3,refused:5:300\n");
+        assert_eq!(line(Answer::edited("panel", edited, Some(vec![7]))), "panel ok:1.0.255:3,refused:5:300 07\n");
+        assert_eq!(line(Answer::edited("", vec![], None)), "-\n");
+    }
+
+    #[test]
+    fn what_is_no_operation_is_not_of_the_protocol() {
+        let ops =
+            ["", " ", "c,", ",c", "c c", "x", "c:1", "a:1:2", "a:1:2:256", "a:1:2:-1", "d:", "d:+1", "d:18446744073709551616", "m:1:2", "n:6:2"];
+        let lines =
+            ["edit", "edit 6 2", "edit 6", "edit 18446744073709551616 2 c", "edit -1 2 c", "panel 00 c", "panel - c", "panelroute 00 - 1 1 -"];
+        for line in lines.map(String::from).into_iter().chain(ops.map(|op| format!("edit 6 2 {op}"))) {
+            assert_eq!(Request::parse(line.as_bytes()), Err(Bad::Protocol), "{line:?}");
+        }
+    }
+}

@@ -289,28 +289,11 @@ mod tests {
             "p1 0102 33 -",
             "p1route 010200 2 0 ff",
             "program 0a",
-            "edit 6 2 -",
-            "edit 0 18446744073709551615 a:1:300:255,d:0,m:18446744073709551615:1:1,c",
-            &format!("panel {} n:6:2,c", "00".repeat(PANEL)),
-            &format!("panelroute {} - 3 4 aabb", "ff".repeat(PANEL)),
         ] {
             let mut out = Vec::new();
             Request::parse(line.as_bytes()).expect(line).write(&mut out);
             assert_eq!(String::from_utf8(out).unwrap(), format!("{line}\n"));
         }
-    }
-
-    #[test]
-    fn edits_are_answered_a_field_each() {
-        let edited = vec![Edited::Done { loads: vec![1, 0, 255], red: 3 }, Edited::Refused { number: 5, place: 300 }];
-        let line = |answer: Answer| {
-            let mut out = Vec::new();
-            answer.write(&mut out);
-            String::from_utf8(out).unwrap()
-        };
-        assert_eq!(line(Answer::edited("", edited.clone(), None)), "ok:1.0.255:3,refused:5:300\n");
-        assert_eq!(line(Answer::edited("panel", edited, Some(vec![7]))), "panel ok:1.0.255:3,refused:5:300 07\n");
-        assert_eq!(line(Answer::edited("", vec![], None)), "-\n");
     }
 
     #[test]
@@ -334,20 +317,6 @@ mod tests {
             "line - 18446744073709551616 -",
             "p1route 0102 2 0 ff",
             "nothing -",
-            "edit",
-            "edit 6 2",
-            "edit 6 2 ",
-            "edit 6 2 c,",
-            "edit 6 2 c c",
-            "edit 6 2 x",
-            "edit 6 2 a:1:2",
-            "edit 6 2 a:1:2:256",
-            "edit 6 2 a:1:2:-1",
-            "edit 6 2 d:",
-            "edit 6 2 d:18446744073709551616",
-            "edit 18446744073709551616 2 c",
-            "edit 6 2 n:6:2",
-            "panel 00 c",
         ] {
             assert_eq!(Request::parse(line.as_bytes()), Err(Bad::Protocol), "{line:?}");
         }
