@@ -1,3 +1,4 @@
 pub mod Core
 pub mod Records
 pub mod Answers
+pub mod Panels

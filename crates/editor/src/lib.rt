@@ -1,18 +1,26 @@
 // The editor's entry for P1: a lent list of records, each with left, right and mark, or of their bytes, routed as the file with those connections is.
 // Document 01, "The job file". A thin walk copies the records to the bytes that the covered core reads.
 ghost use mathlib.Core.Path.{_≡_};
+ghost use Rattle.facts.specs.Tells.{Tells};
+ghost use Rattle.part.specs.P1.{p1};
 ghost use Rattle.editor.specs.Edits.{Edits, RoutesList};
+ghost use Rattle.editor.specs.Panels.{OfPart, RoutesPanel};
 ghost use Rattle.editor.specs.Gathering.{noBytes, placed, gathered, RoutesBytes};
 use channel::MOST_CONNECTIONS;
 use jobfile::CONNECTION;
 use jobfile::HEAD;
 use jobfile::TRAILER;
+use part::P1_COLUMNS;
 use part::P1_RIGHT_ENDS;
 use part::P1_TRACKS;
 use part::Written;
 use part::write_p1;
 use route::Verdict;
 use route::route;
+use state::LIST;
+use state::STATE;
+use state::count;
+use text::wide;
 
 // The bytes of the most connections, and of P1's file with them.
 const BYTES: usize = CONNECTION * MOST_CONNECTIONS;
@@ -92,4 +100,29 @@ pub fn route_p1(connections: &[Connection], limit: u32, budget: u32, labels: &mu
 {
     let bytes = gather(connections);
     route_bytes(labels, bytes, connections.len(), limit, budget)
+}
+
+// Whether N and T are those of P1.
+fn is_p1(n: u8, t: u8) -> bool
+    ensures { λ r. ⌜ Tells r (OfPart p1 n t) ⌝ }
+{
+    if n != P1_COLUMNS {
+        return false;
+    }
+    wide(t) == P1_TRACKS
+}
+
+// Routes a panel's list on P1. A panel of another shape is refused by 2.
+pub fn route_panel(state: &[u8; STATE], limit: u32, budget: u32, labels: &mut [u8]) -> Verdict
+    ensures { λ v. ⌜ RoutesPanel (now (state .entry)) limit budget (now (labels .entry)) v (now (labels .exit)) ⌝ }
+{
+    if !is_p1(state[0], state[1]) {
+        return Verdict::Refused {
+            number: 2,
+            place: 0,
+        };
+    }
+    let end = LIST + CONNECTION * count(state);
+    let bytes = &state[..];
+    route_list(&bytes[LIST..end], limit, budget, labels)
 }

@@ -13,7 +13,7 @@ use Rattle.channel.specs.Channel.{Connection, pieces, connectionAt}
 use Rattle.channel.specs.Relaxed.{without}
 use Rattle.channel.proofs.Nets.{pieces-back, pieces-swap}
 use Rattle.loads.specs.Loads.{crosses, covered, brings, load}
-use Rattle.loads.specs.Edits.{Edit, clear, add, drop, move, moved, edited, good, there, accepted}
+use Rattle.loads.specs.Edits.{Edit, clear, add, drop, move, moved, edited, good, hasNumber, accepted}
 use Rattle.loads.proofs.Covers.{covered-pieces}
 
 -- c and d beside the same list: which of the two counts first makes no difference. `p`, `q`: c and d cross; `j`: they are pieces of one net; `u`, `v`: c and d
@@ -127,7 +127,7 @@ pub record Near (a b : ℕ) : Type 0 where
   pub below : b ≤ a + 1
 
 pub load-edited : (n : ℕ) (cs : List Connection) (e : Edit) (x : ℕ) → (e ≡ clear → ⊥) → accepted n cs e ≡ true → Near (load cs x) (load (edited e cs) x)
-unfolding edited accepted there
+unfolding edited accepted hasNumber
 load-edited n cs clear x other ok = absurd (other refl)
 load-edited n cs (add c) x other ok = let g = load-add cs c x in let m = one-most (brings cs c x) in record { above = omega arith; below = omega arith }
 load-edited n cs (drop k) x other ok =

@@ -13,7 +13,7 @@ use Rattle.channel.specs.Channel.{Connection, connectionAt}
 use Rattle.channel.specs.Valid.{ConnectionRule, Each}
 use Rattle.channel.proofs.Relaxations.{without-length}
 use Rattle.channel.proofs.Validity.{each-at, each-append, each-set, each-without}
-use Rattle.loads.specs.Edits.{Edit, clear, add, drop, move, moved, edited, hasRoom, good, there, accepted, after}
+use Rattle.loads.specs.Edits.{Edit, clear, add, drop, move, moved, edited, hasRoom, good, hasNumber, accepted, after}
 
 -- the marks that edits bring are bytes
 abbrev pub Marked : Edit → Type 0
@@ -31,7 +31,7 @@ module _ (n : ℕ) where
       record { low = leb-true 1 (c .left) (a .0); order = leb-true (c .left) (c .right) (b .0); high = leb-true (c .right) n (b .1); marked = m }
 
   edited-good : (e : Edit) (cs : List Connection) → accepted n cs e ≡ true → Marked e → Each (ConnectionRule n) cs → Each (ConnectionRule n) (edited e cs)
-  unfolding edited accepted there Each connectionAt
+  unfolding edited accepted hasNumber Each connectionAt
   edited-good clear cs ok m g = tt
   edited-good (add c) cs ok m g = each-append (ConnectionRule n) cs (c ∷ []) g (good-rule c (and-right (hasRoom cs) _ ok) m, tt)
   edited-good (drop k) cs ok m g = each-without (ConnectionRule n) (k - 1) cs g

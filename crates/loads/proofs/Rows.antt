@@ -10,7 +10,7 @@ use Rattle.refusals.specs.Table.{before, Passes, Refuses, Sound}
 use Rattle.refusals.proofs.Laws.{behind-row, refuses-left, refuses-right, passes-or, refuses-row, passes-row, sound-row, sound-front, nowhere-one}
 use Rattle.facts.proofs.Bools.{whether, not-both, true-by, false-by, and-both, and-left, and-right}
 use Rattle.channel.specs.Channel.{Connection}
-use Rattle.loads.specs.Edits.{Edit, clear, add, drop, move, hasRoom, good, there, editRows, accepted}
+use Rattle.loads.specs.Edits.{Edit, clear, add, drop, move, hasRoom, good, hasNumber, editRows, accepted}
 
 module _ (n : ℕ) (cs : List Connection) where
   pub rows-sound : (e : Edit) → Sound (editRows n cs e)
@@ -38,7 +38,7 @@ module _ (n : ℕ) (cs : List Connection) where
   refuses-accepted (drop k) num place g = g .holds .1 .0
   refuses-accepted (move k l r) num place g = no (g .holds)
     where
-      no : editRows n cs (move k l r) num place → (good n l r && there cs k) ≡ false
+      no : editRows n cs (move k l r) num place → (good n l r && hasNumber cs k) ≡ false
       no (inl h) = false-by (λ a. not-both (and-left (good n l r) _ a) (h .1 .0))
       no (inr h) = false-by (λ a. not-both (and-right (good n l r) _ a) (h .1 .0))
 
@@ -54,10 +54,10 @@ module _ (n : ℕ) (cs : List Connection) where
   unfolding before
   bad-move k l r h = refuses-left (refuses-row 5 k (h, refl)) (behind-row (omega arith))
 
-  pub absent : (k : ℕ) → there cs k ≡ false → Refuses (editRows n cs (drop k)) 10 0
+  pub absent : (k : ℕ) → hasNumber cs k ≡ false → Refuses (editRows n cs (drop k)) 10 0
   absent k h = refuses-row 10 0 (h, refl)
 
-  pub absent-move : (k l r : ℕ) → good n l r ≡ true → there cs k ≡ false → Refuses (editRows n cs (move k l r)) 10 0
+  pub absent-move : (k l r : ℕ) → good n l r ≡ true → hasNumber cs k ≡ false → Refuses (editRows n cs (move k l r)) 10 0
   absent-move k l r g h = refuses-right (passes-row 5 (λ p b. not-both g (b .0))) (refuses-row 10 0 (h, refl))
 
   pub accepted-passes : (e : Edit) → accepted n cs e ≡ true → Passes (editRows n cs e)

@@ -35,23 +35,23 @@ hasRoom cs = ltb (length cs) mostConnections
 unfoldable pub good : ℕ → ℕ → ℕ → Bool
 good n l r = leb 1 l && (leb l r && leb r n)
 
-unfoldable pub there : List Connection → ℕ → Bool
-there cs k = leb 1 k && leb k (length cs)
+unfoldable pub hasNumber : List Connection → ℕ → Bool
+hasNumber cs k = leb 1 k && leb k (length cs)
 
 -- the rows that fit each edit of a list over n columns: 2 for a list at its limit, 5 for a bad connection, 10 for a number that is absent. The place is 0, and
 -- for 5 the connection's number, which on add is one more than there are
 abbrev pub editRows : ℕ → List Connection → Edit → Rows
 editRows n cs clear = λ num place. ⊥
 editRows n cs (add c) = row 2 (nowhere (hasRoom cs ≡ false)) or row 5 (λ place. (good n (c .left) (c .right) ≡ false) × (place ≡ length cs + 1))
-editRows n cs (drop k) = row 10 (nowhere (there cs k ≡ false))
-editRows n cs (move k l r) = row 5 (λ place. (good n l r ≡ false) × (place ≡ k)) or row 10 (nowhere (there cs k ≡ false))
+editRows n cs (drop k) = row 10 (nowhere (hasNumber cs k ≡ false))
+editRows n cs (move k l r) = row 5 (λ place. (good n l r ≡ false) × (place ≡ k)) or row 10 (nowhere (hasNumber cs k ≡ false))
 
 -- no row fits
 unfoldable pub accepted : ℕ → List Connection → Edit → Bool
 accepted n cs clear = true
 accepted n cs (add c) = hasRoom cs && good n (c .left) (c .right)
-accepted n cs (drop k) = there cs k
-accepted n cs (move k l r) = good n l r && there cs k
+accepted n cs (drop k) = hasNumber cs k
+accepted n cs (move k l r) = good n l r && hasNumber cs k
 
 -- the list that a sequence of edits describes, the first edit first: one that is refused changes nothing
 unfoldable pub after : ℕ → List Edit → List Connection → List Connection

@@ -14,14 +14,14 @@ use Rattle.jobfile.proofs.Decode.{tab-length}
 use Rattle.loads.specs.Loads.{brings, load}
 use Rattle.loads.specs.Edits.{add, edited}
 use Rattle.loads.proofs.Edits.{load-add}
-use Rattle.panel.specs.State.{recordAt, loadsAt, stateBytes, atMost, mIn, connectionIn, listIn, loadIn}
-use Rattle.panel.specs.Does.{up, follows, Relisted}
-use Rattle.panel.specs.Walks.{within, otherOver, turn, Turned}
-use Rattle.panel.proofs.Walks.{most-low}
-use Rattle.panel.proofs.Lists.{tab-same, tab-more}
-use Rattle.panel.proofs.Follows.{follows-add, span-crosses, over-all}
+use Rattle.state.specs.State.{recordAt, loadsAt, stateBytes, atMost, mIn, connectionIn, listIn, loadIn, up}
+use Rattle.panel.specs.Does.{carried, Relisted}
+use Rattle.state.specs.Walks.{inSpan, otherOver, turn, Turned}
+use Rattle.state.proofs.Walks.{most-low}
+use Rattle.state.proofs.Lists.{tab-same, tab-more}
+use Rattle.panel.proofs.Carried.{carried-add, span-crosses, over-all}
 
-module _ (s s₁ : List ℕ) (m l r k : ℕ) (long : length s ≡ stateBytes) (size : m ≡ mIn s) (few : m < mostConnections) (turned : Turned (λ x. within l (r + 1) x && not (otherOver s m m k x)) false s s₁) where
+module _ (s s₁ : List ℕ) (m l r k : ℕ) (long : length s ≡ stateBytes) (size : m ≡ mIn s) (few : m < mostConnections) (turned : Turned (λ x. inSpan l (r + 1) x && not (otherOver s m m k x)) false s s₁) where
   abbrev c : Connection
   c = record { left = l; right = r; mark = k }
 
@@ -89,18 +89,18 @@ module _ (s s₁ : List ℕ) (m l r k : ℕ) (long : length s ≡ stateBytes) (s
   count-is : length (listIn s ++ (c ∷ [])) ≡ m + 1
   count-is = length-append (listIn s) (c ∷ []) ∙ (λ i. (tab-length (connectionIn s) (mIn s) 0 ∙ sym size) i + 1)
 
-  new : (x : ℕ) → (within l (r + 1) x && not (otherOver s m m k x)) ≡ brings (listIn s) c x
+  new : (x : ℕ) → (inSpan l (r + 1) x && not (otherOver s m m k x)) ≡ brings (listIn s) c x
   unfolding brings
   new x = (λ i. span-crosses c x i && not (over-all s m size c x i))
 
-  loads : (x : ℕ) → 1 ≤ x → loadIn written x ≡ follows (load (listIn s) x) (load (listIn s ++ (c ∷ [])) x) (loadIn s x)
+  loads : (x : ℕ) → 1 ≤ x → loadIn written x ≡ carried (load (listIn s) x) (load (listIn s ++ (c ∷ [])) x) (loadIn s x)
   unfolding turn
   loads x h =
       other (loadsAt + x) (λ z. omega arith) (inr (omega arith))
       ∙ turned .loads x h
       ∙ ap (λ (b : Bool). cond b (up (loadIn s x)) (loadIn s x)) (new x)
-      ∙ follows-add (load (listIn s) x) (loadIn s x) (brings (listIn s) c x)
-      ∙ ap (λ (n : ℕ). follows (load (listIn s) x) n (loadIn s x)) (sym (load-add (listIn s) c x))
+      ∙ carried-add (load (listIn s) x) (loadIn s x) (brings (listIn s) c x)
+      ∙ ap (λ (n : ℕ). carried (load (listIn s) x) n (loadIn s x)) (sym (load-add (listIn s) c x))
 
   pub added : Relisted s (edited (add c) (listIn s)) written
   unfolding edited

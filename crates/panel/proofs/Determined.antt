@@ -1,35 +1,27 @@
 -- Any two answers of a call are equal, and so is every byte that it leaves. Assumes nothing.
 use mathlib.Core.Path.{_≡_, refl, sym, ap, subst, _∙_}
-use mathlib.Core.Bool.{true}
 use mathlib.Core.Logic.{⊎-elim}
 use mathlib.Core.List.{List}
 use Prim.Native.Nat.{ℕ, zero, suc, _+_, _-_, _*_, _/_, _%_, _≤_, _<_}
 use native.Mathlib.Omega.{arith}
-use lib.Dec.{eqb}
 use lib.ListN.{length, getD}
 use lib.Seq.{ext-getD}
-use borrow.Author.Tests.{eqb-true, eqb-false}
 use Rattle.refusals.specs.Table.{before, Sound}
 use Rattle.refusals.proofs.Laws.{decided-one, sound-row, nowhere-one}
-use Rattle.facts.proofs.Bools.{whether, below}
+use Rattle.facts.proofs.Bools.{below}
 use Rattle.channel.specs.Channel.{Connection, connectionAt}
 use Rattle.jobfile.specs.Rows.{tab, connectionSize}
 use Rattle.jobfile.proofs.Decode.{tab-length}
 use Rattle.loads.specs.Edits.{Edit, clear, add, drop, move}
 use Rattle.loads.proofs.Rows.{rows-sound}
 use Rattle.loads.proofs.Red.{red-one, red-green}
-use Rattle.route.specs.declared.Verdict.{Verdict}
-use Rattle.part.specs.Part.{tracksIn}
-use Rattle.part.specs.P1.{p1}
-use Rattle.editor.proofs.Answers.{edits-one}
 use Rattle.panel.specs.declared.Answer.{Answer}
 use Rattle.panel.specs.declared.Answer.the-variants as answer
 use Rattle.panel.specs.declared.Sign.{Sign}
 use Rattle.panel.specs.declared.Sign.the-variants as sign
-use Rattle.panel.specs.State.{recordAt, loadsAt, stateBytes, nIn, tIn, mIn, connectionIn, listIn, loadIn}
+use Rattle.state.specs.State.{recordAt, loadsAt, stateBytes, nIn, tIn, mIn, connectionIn, listIn, loadIn}
 use Rattle.panel.specs.Does.{Relisted, Becomes, Does, makeRows, Makes, Signs}
-use Rattle.panel.specs.Routes.{OfPart, recordsIn, RoutesPanel}
-use Rattle.panel.proofs.Covers.{list-at}
+use Rattle.state.proofs.Covers.{list-at}
 
 -- the state with another list is one state
 module _ (s a b : List ℕ) (cs : List Connection) (f : Relisted s cs a) (g : Relisted s cs b) where
@@ -105,12 +97,3 @@ signs-one s sign.Green sign.Green f g = refl
 signs-one s sign.Green (sign.Red r) f g = absurd (red-green (loadIn s) (tIn s) (nIn s) r g f)
 signs-one s (sign.Red r) sign.Green f g = absurd (red-green (loadIn s) (tIn s) (nIn s) r f g)
 signs-one s (sign.Red r) (sign.Red r′) f g = ap sign.Red (red-one (loadIn s) (tIn s) (nIn s) r r′ f g)
-
-pub routes-panel-one : (s : List ℕ) (k b : ℕ) (old : List ℕ) (v v′ : Verdict) (new new′ : List ℕ) → RoutesPanel s k b old v new → RoutesPanel s k b old v′ new′ → (v ≡ v′) × (new ≡ new′)
-routes-panel-one s k b old v v′ new new′ f g = whether (eqb (nIn s) (p1 .columns)) (λ a. whether (eqb (tIn s) (tracksIn (p1 .table))) (λ c. edits-one (recordsIn s) k b old v v′ new new′ (f .same (shape a c)) (g .same (shape a c))) (λ c. other (λ h. eqb-false _ _ c (h .1)))) (λ a. other (λ h. eqb-false _ _ a (h .0)))
-  where
-    other : (OfPart p1 (nIn s) (tIn s) → ⊥) → (v ≡ v′) × (new ≡ new′)
-    other n = (f .other n .0 ∙ sym (g .other n .0), f .other n .1 ∙ sym (g .other n .1))
-
-    shape : eqb (nIn s) (p1 .columns) ≡ true → eqb (tIn s) (tracksIn (p1 .table)) ≡ true → OfPart p1 (nIn s) (tIn s)
-    shape a c = (eqb-true _ _ a, eqb-true _ _ c)

@@ -16,15 +16,15 @@ use Rattle.jobfile.proofs.Decode.{tab-length}
 use Rattle.loads.specs.Loads.{brings, load}
 use Rattle.loads.specs.Edits.{drop, edited}
 use Rattle.loads.proofs.Edits.{load-apart}
-use Rattle.panel.specs.State.{recordAt, loadsAt, stateBytes, atMost, mIn, connectionIn, listIn, loadIn}
-use Rattle.panel.specs.Does.{down, follows, Relisted}
-use Rattle.panel.specs.Walks.{within, otherOver, turn, Turned, Closed}
-use Rattle.panel.proofs.Walks.{most-low, turned-same}
-use Rattle.panel.proofs.Covers.{list-at}
-use Rattle.panel.proofs.Lists.{tab-without}
-use Rattle.panel.proofs.Follows.{follows-drop, span-crosses, over-list}
+use Rattle.state.specs.State.{recordAt, loadsAt, stateBytes, atMost, mIn, connectionIn, listIn, loadIn, down}
+use Rattle.panel.specs.Does.{carried, Relisted}
+use Rattle.state.specs.Walks.{inSpan, otherOver, turn, Turned, Closed}
+use Rattle.state.proofs.Walks.{most-low, turned-same}
+use Rattle.state.proofs.Covers.{list-at}
+use Rattle.state.proofs.Lists.{tab-without}
+use Rattle.panel.proofs.Carried.{carried-drop, span-crosses, over-list}
 
-module _ (s s₁ s₂ : List ℕ) (m i : ℕ) (long : length s ≡ stateBytes) (size : m ≡ mIn s) (most : m ≤ mostConnections) (low : i < m) (turned : Turned (λ x. within (connectionIn s i .left) (connectionIn s i .right + 1) x && not (otherOver s m i (connectionIn s i .mark) x)) true s s₁) (closed : Closed (recordAt i) (connectionSize * m) s₁ s₂) where
+module _ (s s₁ s₂ : List ℕ) (m i : ℕ) (long : length s ≡ stateBytes) (size : m ≡ mIn s) (most : m ≤ mostConnections) (low : i < m) (turned : Turned (λ x. inSpan (connectionIn s i .left) (connectionIn s i .right + 1) x && not (otherOver s m i (connectionIn s i .mark) x)) true s s₁) (closed : Closed (recordAt i) (connectionSize * m) s₁ s₂) where
   abbrev shorter : List ℕ
   shorter = set s₂ 2 (m - 1)
 
@@ -79,18 +79,18 @@ module _ (s s₁ s₂ : List ℕ) (m i : ℕ) (long : length s ≡ stateBytes) (
   there : connectionAt (listIn s) i ≡ c
   there = list-at s (mIn s) i (omega arith)
 
-  gone : (x : ℕ) → (within (c .left) (c .right + 1) x && not (otherOver s m i (c .mark) x)) ≡ brings rest (connectionAt (listIn s) i) x
+  gone : (x : ℕ) → (inSpan (c .left) (c .right + 1) x && not (otherOver s m i (c .mark) x)) ≡ brings rest (connectionAt (listIn s) i) x
   unfolding brings
   gone x = (λ j. span-crosses c x j && not (over-list s m size c x i j)) ∙ ap (λ (q : Connection). brings rest q x) (sym there)
 
-  loads : (x : ℕ) → 1 ≤ x → loadIn shorter x ≡ follows (load (listIn s) x) (load rest x) (loadIn s x)
+  loads : (x : ℕ) → 1 ≤ x → loadIn shorter x ≡ carried (load (listIn s) x) (load rest x) (loadIn s x)
   unfolding turn
   loads x h =
       behind (loadsAt + x) (λ z. omega arith) (inr (omega arith))
       ∙ turned .loads x h
       ∙ ap (λ (b : Bool). cond b (down (loadIn s x)) (loadIn s x)) (gone x)
-      ∙ follows-drop (load rest x) (loadIn s x) (brings rest (connectionAt (listIn s) i) x)
-      ∙ ap (λ (n : ℕ). follows n (load rest x) (loadIn s x)) (sym (load-apart i (listIn s) x inside))
+      ∙ carried-drop (load rest x) (loadIn s x) (brings rest (connectionAt (listIn s) i) x)
+      ∙ ap (λ (n : ℕ). carried n (load rest x) (loadIn s x)) (sym (load-apart i (listIn s) x inside))
 
   dropped-at : Relisted s rest shorter
   dropped-at = record {
@@ -105,9 +105,9 @@ module _ (s s₁ s₂ : List ℕ) (m i : ℕ) (long : length s ≡ stateBytes) (
 
 -- the same, by the columns as the code reads them
 pub dropped : (s s₁ s₂ : List ℕ) (m i l r : ℕ) → length s ≡ stateBytes → m ≡ mIn s → m ≤ mostConnections → i < m → l ≡ connectionIn s i .left → r ≡ connectionIn s i .right →
-    Turned (λ x. within l (r + 1) x && not (otherOver s m i (connectionIn s i .mark) x)) true s s₁ → Closed (recordAt i) (connectionSize * m) s₁ s₂ → Relisted s (edited (drop (i + 1)) (listIn s)) (set s₂ 2 (m - 1))
+    Turned (λ x. inSpan l (r + 1) x && not (otherOver s m i (connectionIn s i .mark) x)) true s s₁ → Closed (recordAt i) (connectionSize * m) s₁ s₂ → Relisted s (edited (drop (i + 1)) (listIn s)) (set s₂ 2 (m - 1))
 unfolding edited
 dropped s s₁ s₂ m i l r long size most low el er turned closed =
     let z : i ≡ i + 1 - 1 = omega arith in
-    let t = turned-same turned (λ x one. (λ j. within (el j) (er j + 1) x && not (otherOver s m i (connectionIn s i .mark) x))) in
+    let t = turned-same turned (λ x one. (λ j. inSpan (el j) (er j + 1) x && not (otherOver s m i (connectionIn s i .mark) x))) in
     subst (λ (n : ℕ). Relisted s (without n (listIn s)) (set s₂ 2 (m - 1))) z (dropped-at s s₁ s₂ m i long size most low t closed)

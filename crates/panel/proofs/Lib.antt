@@ -1,12 +1,8 @@
 pub mod Tests
-pub mod Walks
-pub mod Covers
-pub mod Lists
-pub mod Follows
+pub mod Carried
 pub mod Adding
 pub mod Dropping
 pub mod Moving
 pub mod Sequences
 pub mod Determined
-pub mod Routing
 pub mod Colours

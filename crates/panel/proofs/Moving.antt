@@ -19,17 +19,18 @@ use Rattle.loads.specs.Loads.{crosses, covered, brings, load}
 use Rattle.loads.specs.Edits.{move, moved, edited}
 use Rattle.loads.proofs.Covers.{covered-marked}
 use Rattle.loads.proofs.Edits.{load-apart, load-set}
-use Rattle.panel.specs.State.{recordAt, loadsAt, stateBytes, atMost, mIn, connectionIn, listIn, loadIn}
-use Rattle.panel.specs.Does.{up, down, follows, Relisted}
-use Rattle.panel.specs.Walks.{larger, within, otherOver, turn, Turned}
-use Rattle.panel.proofs.Walks.{most-low, turned-same}
-use Rattle.panel.proofs.Covers.{list-at}
-use Rattle.panel.proofs.Lists.{tab-set}
-use Rattle.panel.proofs.Follows.{follows-move, span-crosses, cut-crosses, over-list, over-same}
+use Rattle.state.specs.State.{recordAt, loadsAt, stateBytes, atMost, mIn, connectionIn, listIn, loadIn, up, down}
+use Rattle.panel.specs.Does.{carried, Relisted}
+use Rattle.state.specs.Walks.{larger, inSpan, otherOver, turn, Turned}
+use Rattle.state.proofs.Walks.{most-low, turned-same}
+use Rattle.state.proofs.Covers.{list-at}
+use Rattle.state.proofs.Lists.{tab-set}
+use Rattle.state.proofs.Outside.{over-same}
+use Rattle.panel.proofs.Carried.{carried-move, span-crosses, cut-crosses, over-list}
 
 -- the columns of a span that are not of another
 abbrev pub beside : ℕ → ℕ → ℕ → ℕ → ℕ → Bool
-beside a e b f x = within a e x && not (within b f x)
+beside a e b f x = inSpan a e x && not (inSpan b f x)
 
 module _ (s s₁ s₂ : List ℕ) (m i l r : ℕ) (long : length s ≡ stateBytes) (size : m ≡ mIn s) (most : m ≤ mostConnections) (low : i < m)
     (left : Turned (λ x. beside (connectionIn s i .left) (larger (connectionIn s i .left) (connectionIn s i .right + 1)) l (r + 1) x && not (otherOver s m i (connectionIn s i .mark) x)) true s s₁)
@@ -117,15 +118,15 @@ module _ (s s₁ s₂ : List ℕ) (m i l r : ℕ) (long : length s ≡ stateByte
     unfolding brings
     is = load-set i (listIn s) to x inside ∙ ap (λ (b : Bool). load rest x + bitOf (crosses to x && not b)) (covered-marked rest to c x refl)
 
-    loads : 1 ≤ x → loadIn written x ≡ follows (load (listIn s) x) (load (set (listIn s) i to) x) (loadIn s x)
+    loads : 1 ≤ x → loadIn written x ≡ carried (load (listIn s) x) (load (set (listIn s) i to) x) (loadIn s x)
     unfolding turn
     loads h =
         let one : loadIn s₁ x ≡ cond ((crosses c x && not (crosses to x)) && not over) (down (loadIn s x)) (loadIn s x) = left .loads x h ∙ ap (λ (b : Bool). cond b (down (loadIn s x)) (loadIn s x)) gone in
         other (loadsAt + x) (λ z. omega arith) (λ z. omega arith) (λ z. omega arith)
         ∙ came .loads x h
         ∙ (λ j. cond (new j) (up (one j)) (one j))
-        ∙ follows-move (load rest x) (loadIn s x) over (crosses c x) (crosses to x)
-        ∙ sym (λ j. follows (was j) (is j) (loadIn s x))
+        ∙ carried-move (load rest x) (loadIn s x) over (crosses c x) (crosses to x)
+        ∙ sym (λ j. carried (was j) (is j) (loadIn s x))
 
   count-is : length (set (listIn s) i to) ≡ m
   count-is = length-set (listIn s) i to ∙ tab-length (connectionIn s) (mIn s) 0 ∙ sym size

@@ -1,26 +1,19 @@
 -- The tests of an edit, as the code asks them. Assumes nothing.
 use mathlib.Core.Path.{_≡_, refl, sym, ap, _∙_}
-use mathlib.Core.Bool.{Bool, true, false, _&&_}
+use mathlib.Core.Bool.{true, false, _&&_}
 use mathlib.Core.List.{List}
 use Prim.Native.Nat.{ℕ, _≤_, _<_}
-use native.Mathlib.Omega.{arith}
-use lib.Dec.{leb, ltb, eqb}
+use lib.Dec.{leb, ltb}
 use lib.ListN.{length}
-use borrow.Author.Tests.{eqb-true, eqb-false, leb-true, le-leb, lt-leb, lt-ltb, le-ltb}
+use borrow.Author.Tests.{leb-true, le-leb, lt-leb}
 use Rattle.facts.proofs.Bools.{both, not-both, and-left, and-right, false-by}
-use Rattle.facts.specs.Tells.{Tells}
 use Rattle.refusals.specs.Table.{Refuses, Passes}
 use Rattle.refusals.proofs.Laws.{refuses-row, passes-row}
 use Rattle.channel.specs.Limits.{mostConnections, Limits}
-use Rattle.channel.specs.Channel.{netIn}
 use Rattle.jobfile.proofs.Decode.{tab-length}
-use Rattle.loads.specs.Edits.{hasRoom, good, there}
-use Rattle.part.specs.Part.{tracksIn}
-use Rattle.part.specs.P1.{p1}
-use Rattle.panel.specs.State.{mIn, connectionIn, listIn}
+use Rattle.loads.specs.Edits.{hasRoom, good, hasNumber}
+use Rattle.state.specs.State.{mIn, connectionIn, listIn}
 use Rattle.panel.specs.Does.{makeRows}
-use Rattle.panel.specs.Routes.{OfPart}
-use Rattle.panel.specs.Walks.{oneNet}
 
 module _ (n l r : ℕ) where
   pub good-low : l < 1 → good n l r ≡ false
@@ -42,15 +35,6 @@ module _ (m k : ℕ) where
   pub there-rest : 1 ≤ k → (leb 1 k && leb k m) ≡ leb k m
   there-rest h = (λ i. le-leb 1 k h i && leb k m)
 
-module _ (a b : ℕ) where
-  pub net-none : netIn a < 1 → oneNet a b ≡ false
-  unfolding oneNet
-  net-none h = (λ i. le-ltb 0 (netIn a) (omega arith) i && eqb (netIn a) (netIn b))
-
-  pub net-same : 1 ≤ netIn a → oneNet a b ≡ eqb (netIn a) (netIn b)
-  unfolding oneNet
-  net-same h = (λ i. lt-ltb 0 (netIn a) h i && eqb (netIn a) (netIn b))
-
 -- the tests of a list, by the number of its connections
 module _ (s : List ℕ) (m : ℕ) (size : m ≡ mIn s) where
   pub size-is : length (listIn s) ≡ m
@@ -60,8 +44,8 @@ module _ (s : List ℕ) (m : ℕ) (size : m ≡ mIn s) where
   unfolding hasRoom
   room-is = ap (λ (n : ℕ). ltb n mostConnections) size-is
 
-  pub there-is : (k : ℕ) → there (listIn s) k ≡ (leb 1 k && leb k m)
-  unfolding there
+  pub there-is : (k : ℕ) → hasNumber (listIn s) k ≡ (leb 1 k && leb k m)
+  unfolding hasNumber
   there-is k = ap (λ (n : ℕ). leb 1 k && leb k n) size-is
 
 pub good-says : (n l r : ℕ) → good n l r ≡ true → (1 ≤ l) × (l ≤ r) × (r ≤ n)
@@ -77,11 +61,3 @@ outside n t h = refuses-row 2 0 (h, refl)
 
 pub inside : (n t : ℕ) → Limits n t 0 1 → Passes (makeRows n t)
 inside n t g = passes-row 2 (λ p h. h .0 g)
-
--- N is P1's already, and T is compared
-pub same-told : (n t : ℕ) → n ≡ p1 .columns → Tells (eqb t (tracksIn (p1 .table))) (OfPart p1 n t)
-same-told n t e = go (eqb t (tracksIn (p1 .table))) refl
-  where
-    go : (b : Bool) → eqb t (tracksIn (p1 .table)) ≡ b → Tells b (OfPart p1 n t)
-    go true h = (e, eqb-true t (tracksIn (p1 .table)) h)
-    go false h = λ g. eqb-false t (tracksIn (p1 .table)) h (g .1)

@@ -2,9 +2,9 @@
 use mathlib.Core.Path.{_≡_}
 use mathlib.Core.Bool.{cond}
 use mathlib.Core.List.{List, [], _∷_}
-use Prim.Native.Nat.{ℕ, _+_, _-_, _≤_}
+use Prim.Native.Nat.{ℕ, _≤_}
 use lib.Dec.{ltb}
-use lib.ListN.{length, getD, replicate}
+use lib.ListN.{length, getD}
 use Rattle.refusals.specs.Table.{Rows, row, nowhere, Refuses, Passes}
 use Rattle.channel.specs.Limits.{Limits}
 use Rattle.channel.specs.Channel.{Connection}
@@ -14,18 +14,11 @@ use Rattle.panel.specs.declared.Answer.{Answer}
 use Rattle.panel.specs.declared.Answer.the-variants as answer
 use Rattle.panel.specs.declared.Sign.{Sign}
 use Rattle.panel.specs.declared.Sign.the-variants as sign
-use Rattle.panel.specs.State.{recordAt, loadsAt, stateBytes, nIn, tIn, listIn, loadIn}
-
--- a byte one more and one less: at its most it stays, and at 0
-unfoldable pub up : ℕ → ℕ
-up b = cond (ltb b 255) (b + 1) b
-
-abbrev pub down : ℕ → ℕ
-down b = b - 1
+use Rattle.state.specs.State.{recordAt, loadsAt, emptyPanel, nIn, tIn, listIn, loadIn, up, down}
 
 -- a byte goes as a load goes, which was a and is b: one more, one less, or as it was
-unfoldable pub follows : ℕ → ℕ → ℕ → ℕ
-follows a b l = cond (ltb a b) (up l) (cond (ltb b a) (down l) l)
+unfoldable pub carried : ℕ → ℕ → ℕ → ℕ
+carried a b l = cond (ltb a b) (up l) (cond (ltb b a) (down l) l)
 
 -- the state with the list cs for its own: N and T stay, each load goes as the list's does, and the room behind the list stays, column 0 with it
 pub record Relisted (s : List ℕ) (cs : List Connection) (s′ : List ℕ) : Type 0 where
@@ -34,16 +27,12 @@ pub record Relisted (s : List ℕ) (cs : List Connection) (s′ : List ℕ) : Ty
   pub tracks : tIn s′ ≡ tIn s
   pub count : getD s′ 2 0 ≡ length cs
   pub list : listIn s′ ≡ cs
-  pub loads : (x : ℕ) → 1 ≤ x → loadIn s′ x ≡ follows (load (listIn s) x) (load cs x) (loadIn s x)
+  pub loads : (x : ℕ) → 1 ≤ x → loadIn s′ x ≡ carried (load (listIn s) x) (load cs x) (loadIn s x)
   pub room : (k : ℕ) → recordAt (length cs) ≤ k → k ≤ loadsAt → getD s′ k 0 ≡ getD s k 0
-
--- a state for N and T with no connection
-abbrev pub blank : ℕ → ℕ → List ℕ
-blank n t = n ∷ t ∷ replicate (stateBytes - 2) 0
 
 -- what an edit that is accepted makes of the state
 abbrev pub Becomes : List ℕ → Edit → List ℕ → Type 0
-Becomes s clear s′ = s′ ≡ blank (nIn s) (tIn s)
+Becomes s clear s′ = s′ ≡ emptyPanel (nIn s) (tIn s)
 Becomes s (add c) s′ = Relisted s (edited (add c) (listIn s)) s′
 Becomes s (drop k) s′ = Relisted s (edited (drop k) (listIn s)) s′
 Becomes s (move k l r) s′ = Relisted s (edited (move k l r) (listIn s)) s′
@@ -58,7 +47,7 @@ abbrev pub makeRows : ℕ → ℕ → Rows
 makeRows n t = row 2 (nowhere (Limits n t 0 1 → ⊥))
 
 abbrev pub Makes : ℕ → ℕ → List ℕ → Answer → List ℕ → Type 0
-Makes n t s answer.Done s′ = Passes (makeRows n t) × (s′ ≡ blank n t)
+Makes n t s answer.Done s′ = Passes (makeRows n t) × (s′ ≡ emptyPanel n t)
 Makes n t s (answer.Refused num place) s′ = Refuses (makeRows n t) num place × (s′ ≡ s)
 
 -- the panel is red at the first column whose load exceeds T, or green

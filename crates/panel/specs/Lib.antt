@@ -1,4 +1,1 @@
-pub mod State
 pub mod Does
-pub mod Routes
-pub mod Walks

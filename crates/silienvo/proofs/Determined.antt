@@ -18,9 +18,10 @@ use Rattle.lines.proofs.Determined.{writes-one as line-writes-one}
 use Rattle.part.specs.P1.{p1}
 use Rattle.part.proofs.Answers.{writes-one}
 use Rattle.reply.proofs.Exact.{replies-one}
+use Rattle.panel.proofs.Determined.{does-one, makes-one, signs-one}
 use Rattle.editor.specs.declared.Connection.{Connection as Record}
 use Rattle.editor.proofs.Answers.{edits-one}
-use Rattle.panel.proofs.Determined.{does-one, makes-one, signs-one, routes-panel-one}
+use Rattle.editor.proofs.Panels.{routes-panel-one}
 use Rattle.silienvo.specs.declared.SilienvoAnswer.{SilienvoAnswer}
 use Rattle.silienvo.specs.Exports.{jobGiven, verdictGiven, judgementGiven, rowsGiven, lineGiven, replyGiven, writtenGiven, doneGiven, signGiven, EditSays}
 use Rattle.silienvo.proofs.silienvo_read as read

@@ -29,12 +29,12 @@ use Rattle.reply.specs.declared.Answer.the-variants as reply
 use Rattle.reply.specs.Replies.{Replies}
 use Rattle.editor.specs.declared.Connection.{Connection as Record}
 use Rattle.editor.specs.Edits.{Edits}
+use Rattle.editor.specs.Panels.{RoutesPanel}
 use Rattle.panel.specs.declared.Answer.{Answer as PanelAnswer}
 use Rattle.panel.specs.declared.Answer.the-variants as done
 use Rattle.panel.specs.declared.Sign.{Sign}
 use Rattle.panel.specs.declared.Sign.the-variants as sign
 use Rattle.panel.specs.Does.{Does, Makes, Signs}
-use Rattle.panel.specs.Routes.{RoutesPanel}
 use Rattle.silienvo.specs.declared.SilienvoAnswer.{SilienvoAnswer}
 use Rattle.silienvo.specs.declared.SilienvoJob.{SilienvoJob}
 

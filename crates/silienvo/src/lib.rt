@@ -7,10 +7,10 @@ ghost use Rattle.silienvo.specs.Exports.{refusal, given, jobGiven, verdi
 ghost use Rattle.silienvo.specs.Fits.{ReadFits};
 use jobfile::Read;
 use judge::Judgement;
-use panel::STATE;
 use panel::Sign;
 use part::Written;
 use route::Verdict;
+use state::STATE;
 use text::wide;
 
 // An answer: kind 0 is a refusal with its number, and its place as the value. Other kinds and their values are listed at each function.
@@ -317,5 +317,5 @@ pub extern "C" fn silienvo_panel_p1_route(
 ) -> SilienvoAnswer
     ensures { λ r. ⌜ PanelRouteSays (now (panel .entry)) limit budget (now (labels .entry)) r (now (labels .exit)) ⌝ }
 {
-    verdict_given(panel::route_p1(panel, limit, budget, labels))
+    verdict_given(editor::route_panel(panel, limit, budget, labels))
 }

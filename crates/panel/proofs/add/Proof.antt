@@ -11,7 +11,7 @@ use Rattle.facts.proofs.Bools.{and-both}
 use Rattle.channel.specs.Limits.{mostConnections}
 use Rattle.loads.specs.Edits.{add, editRows, accepted}
 use Rattle.loads.proofs.Rows.{full, bad, accepted-passes}
-use Rattle.panel.specs.State.{nIn, listIn}
+use Rattle.state.specs.State.{nIn, listIn}
 use Rattle.panel.proofs.Tests.{size-is, room-is, good-says}
 use Rattle.panel.proofs.add.Statement.{statement}
 use Rattle.panel.proofs.add.Tie as tie

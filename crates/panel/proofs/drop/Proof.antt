@@ -8,7 +8,7 @@ use borrow.Author.Needs.{needs}
 use borrow.Author.Tests.{not-true, not-false}
 use Rattle.loads.specs.Edits.{drop, edited, accepted}
 use Rattle.loads.proofs.Rows.{absent, accepted-passes}
-use Rattle.panel.specs.State.{nIn, listIn}
+use Rattle.state.specs.State.{nIn, listIn}
 use Rattle.panel.specs.Does.{Relisted}
 use Rattle.panel.proofs.Tests.{there-is, there-says}
 use Rattle.panel.proofs.drop.Statement.{statement}

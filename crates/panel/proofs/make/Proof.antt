@@ -22,11 +22,12 @@ returns-3 c =
 
 returns-4 : tie.Need-returns-4
 returns-4 c =
-    let a = c .before .before .before .before .before .args in
-    let w = c .before .before .within-limits in
-    (inside (a .columns) (a .tracks) (told-yes (Limits (a .columns) (a .tracks) 0 1) (w .result) (w .ensures) (c .before .if3 .left)), refl)
+    let p = c .before .before in
+    let a = p .before .before .before .before .args in
+    let w = p .before .within-limits in
+    (inside (a .columns) (a .tracks) (told-yes (Limits (a .columns) (a .tracks) 0 1) (w .result) (w .ensures) (p .if3 .left)), c .wipe .ensures)
 
 pub make-spec : {M : Type 1} → statement M
 make-spec =
     tie.close
-    (tie.spec returns returns-2 (search needs) (search needs) (search needs) returns-3 (search needs) (search needs) (search needs) (search needs) returns-4)
+    (tie.spec returns returns-2 (search needs) (search needs) (search needs) returns-3 (search needs) (search needs) (search needs) returns-4)

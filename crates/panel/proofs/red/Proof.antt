@@ -6,7 +6,7 @@ use native.Mathlib.Omega.{arith}
 use denote.Ref.{now}
 use borrow.Author.Needs.{needs}
 use Rattle.facts.proofs.Bools.{below}
-use Rattle.panel.specs.State.{tIn, loadIn}
+use Rattle.state.specs.State.{tIn, loadIn}
 use Rattle.panel.proofs.red.Statement.{statement}
 use Rattle.panel.proofs.red.Tie as tie
 

@@ -5,8 +5,8 @@ use native.Mathlib.Omega.{arith}
 use denote.Ref.{now}
 use borrow.Author.Needs.{needs}
 use Rattle.channel.specs.Limits.{mostColumns}
-use Rattle.panel.specs.Walks.{larger}
-use Rattle.panel.proofs.Walks.{larger-first, larger-most}
+use Rattle.state.specs.Walks.{larger}
+use Rattle.state.proofs.Walks.{larger-first, larger-most}
 use Rattle.panel.proofs.Moving.{shifted}
 use Rattle.panel.proofs.replace.Statement.{statement}
 use Rattle.panel.proofs.replace.Tie as tie

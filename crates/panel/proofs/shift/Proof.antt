@@ -9,7 +9,7 @@ use borrow.Author.Tests.{not-true, not-false}
 use Rattle.facts.proofs.Bools.{and-both}
 use Rattle.loads.specs.Edits.{move, edited, accepted}
 use Rattle.loads.proofs.Rows.{bad-move, absent-move, accepted-passes}
-use Rattle.panel.specs.State.{nIn, listIn}
+use Rattle.state.specs.State.{nIn, listIn}
 use Rattle.panel.specs.Does.{Relisted}
 use Rattle.panel.proofs.Tests.{there-is, good-says, there-says}
 use Rattle.panel.proofs.shift.Statement.{statement}
