@@ -1,4 +1,5 @@
 // The entries of the library, each asked what a record asks, and the answer as three numbers. Document 01, "Replies by number", has the numbers of refusals.
+use crate::panels;
 use crate::record::ROOM;
 use crate::record::byte;
 use crate::record::first;
@@ -11,7 +12,7 @@ use route::Verdict;
 use text::wide;
 
 // A kind that no record has.
-const NONE: u8 = 255;
+pub const NONE: u8 = 255;
 
 // An answer: kind 0 is a refusal with its number and its place as the value; other kinds are counted from 1 in the order of the entry's answers.
 pub struct Given {
@@ -20,7 +21,7 @@ pub struct Given {
     pub value: usize,
 }
 
-fn refused(number: u8, place: usize) -> Given {
+pub fn refused(number: u8, place: usize) -> Given {
     Given {
         kind: 0,
         number: number,
@@ -28,7 +29,7 @@ fn refused(number: u8, place: usize) -> Given {
     }
 }
 
-fn answered(kind: u8, value: usize) -> Given {
+pub fn answered(kind: u8, value: usize) -> Given {
     Given {
         kind: kind,
         number: 0,
@@ -53,7 +54,7 @@ fn read(r: &[u8]) -> Given {
     }
 }
 
-fn verdict(v: Verdict) -> Given {
+pub fn verdict(v: Verdict) -> Given {
     match v {
         Verdict::Routed(trials) => answered(1, trials as usize),
         Verdict::Unroutable(trials) => answered(2, trials as usize),
@@ -120,6 +121,9 @@ pub fn asked(r: &[u8], lent: &mut [u8]) -> Given {
         5 => replied(r, lent),
         6 => p1_written(r, lent),
         7 => p1_routed(r, lent),
+        8..=12 => panels::edited(r, lent),
+        13 => panels::signed(r),
+        14 => panels::routed(r, lent),
         _ => answered(NONE, 0),
     }
 }

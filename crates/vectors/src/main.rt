@@ -1,6 +1,7 @@
 // Replays vectors that the second router made, in the files that arguments name, and prints how many agree and how many differ.
 // Answer, number, place or value, and every byte of the lent buffer are compared. tests/README.md says how the files are made.
 mod entries;
+mod panels;
 mod record;
 
 use libc::STDOUT_FILENO;

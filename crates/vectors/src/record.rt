@@ -30,6 +30,13 @@ pub fn four(s: &[u8], at: usize) -> u32
     (two(s, at) + 65536 * two(s, at + 2)) as u32
 }
 
+// A number of eight bytes, low byte first.
+pub fn eight(s: &[u8], at: usize) -> usize
+    requires { ⌜ at + 6 < 65536 ⌝ }
+{
+    four(s, at) as usize + 4294967296 * (four(s, at + 4) as usize)
+}
+
 // The bytes from a place up to another.
 pub fn between(s: &[u8], from: usize, to: usize) -> &[u8] {
     if to < from {

@@ -6,6 +6,7 @@
 //! files and replies to ask about, from a seed.
 
 pub mod boundary;
+pub mod calls;
 pub mod fast;
 pub mod kind;
 pub mod make;

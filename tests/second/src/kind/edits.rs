@@ -98,7 +98,7 @@ fn stays(before: &Kept, after: &Kept, op: Op, load: u8) -> bool {
 }
 
 /// Whether adding the connections to an empty panel gives these loads.
-fn of_a_sequence(kept: &Kept) -> bool {
+pub fn of_a_sequence(kept: &Kept) -> bool {
     let mut panel = Kept::of(Panel::empty(kept.panel.columns, kept.panel.tracks));
     let added = |c: &Connection| panel.operate(Op::Add { left: c.left.into(), right: c.right.into(), mark: c.mark }).is_ok();
     kept.list.iter().all(added) && panel.panel.loads == kept.panel.loads

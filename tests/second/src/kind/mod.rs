@@ -2,6 +2,8 @@
 
 mod edits;
 
+pub use edits::of_a_sequence;
+
 use crate::fast::{self, Channel, Kept};
 use crate::panel::Panel;
 use crate::Job;
