@@ -11,11 +11,11 @@ use crate::record::first;
 use crate::record::four;
 use crate::record::second;
 use panel::Answer;
-use panel::STATE;
 use panel::Sign;
+use state::STATE;
 ghost use Prim.Native.Nat.{_≤_};
 ghost use lib.ListN.{length};
-ghost use Rattle.panel.specs.State.{stateBytes};
+ghost use Rattle.state.specs.State.{stateBytes};
 
 // A panel of these bytes.
 fn of(bytes: &[u8]) -> [u8; STATE]
@@ -85,5 +85,5 @@ pub fn routed(r: &[u8], lent: &mut [u8]) -> Given {
         return answered(NONE, 0);
     }
     let state = of(bytes);
-    verdict(panel::route_p1(&state, four(r, 7), four(r, 11), lent))
+    verdict(editor::route_panel(&state, four(r, 7), four(r, 11), lent))
 }
