@@ -16,15 +16,15 @@ use Rattle.jobfile.specs.File.{connectionBytes, joined}
 use Rattle.jobfile.specs.Rows.{tab, connectionSize}
 use Rattle.jobfile.proofs.Decode.{tab-length}
 use Rattle.jobfile.proofs.Encode.{encode-one}
+use Rattle.state.specs.State.{recordAt, nIn, tIn, mIn, connectionIn, listIn, Kept}
+use Rattle.panel.specs.declared.Sign.the-variants as sign
+use Rattle.panel.specs.Does.{Signs}
+use Rattle.panel.proofs.Colours.{Shows, panel-red-none}
 use Rattle.route.specs.declared.Verdict.{Verdict}
 use Rattle.route.specs.declared.Verdict.the-variants as verdict
 use Rattle.part.specs.Part.{tracksIn, trackOf, jobOfPart}
 use Rattle.part.specs.P1.{p1}
 use Rattle.part.specs.Writes.{fileOf, partRows}
-use Rattle.state.specs.State.{recordAt, nIn, tIn, mIn, connectionIn, listIn, Kept}
-use Rattle.panel.specs.declared.Sign.the-variants as sign
-use Rattle.panel.specs.Does.{Signs}
-use Rattle.panel.proofs.Colours.{Shows, panel-red-none}
 use Rattle.editor.specs.Edits.{toldBy, bytesOf, AsFile, refuses, routes, RoutesList, Edits}
 use Rattle.editor.specs.Panels.{OfPart, recordOf, recordsIn, RoutesPanel}
 use Rattle.editor.proofs.Records.{as-records}

@@ -3,11 +3,11 @@ use mathlib.Core.Path.{_≡_}
 use mathlib.Core.List.{List, map}
 use Prim.Native.Nat.{ℕ}
 use Rattle.channel.specs.Channel.{Connection}
+use Rattle.state.specs.State.{nIn, tIn, listIn}
 use Rattle.route.specs.declared.Verdict.{Verdict}
 use Rattle.route.specs.declared.Verdict.the-variants as verdict
 use Rattle.part.specs.Part.{Part, tracksIn}
 use Rattle.part.specs.P1.{p1}
-use Rattle.state.specs.State.{nIn, tIn, listIn}
 use Rattle.editor.specs.declared.Connection.{Connection as Record}
 use Rattle.editor.specs.Edits.{Edits}
 

@@ -2,16 +2,15 @@
 use mathlib.Core.Path.{_≡_, refl}
 use mathlib.Core.Bool.{Bool, true, false, cond}
 use mathlib.Core.List.{List, [], _∷_}
-use Prim.Native.Nat.{ℕ, _+_, _-_, _≤_}
+use Prim.Native.Nat.{ℕ, _-_, _≤_}
 use native.Mathlib.Omega.{arith}
 use lib.Dec.{leb}
-use lib.ListN.{length, length-append, length-set}
-use borrow.Author.Tests.{leb-true, ltb-true}
+use lib.ListN.{length}
+use borrow.Author.Tests.{leb-true}
 use Rattle.facts.proofs.Bools.{both, and-left, and-right}
-use Rattle.channel.specs.Limits.{mostConnections, mostMark}
+use Rattle.channel.specs.Limits.{mostMark}
 use Rattle.channel.specs.Channel.{Connection, connectionAt}
 use Rattle.channel.specs.Valid.{ConnectionRule, Each}
-use Rattle.channel.proofs.Relaxations.{without-length}
 use Rattle.channel.proofs.Validity.{each-at, each-append, each-set, each-without}
 use Rattle.loads.specs.Edits.{Edit, clear, add, drop, move, moved, edited, hasRoom, good, hasNumber, accepted, after}
 

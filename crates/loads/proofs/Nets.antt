@@ -5,10 +5,10 @@ use mathlib.Core.Logic.{⊎-elim}
 use mathlib.Core.List.{List, [], _∷_}
 use Prim.Native.Nat.{ℕ, zero, suc, _+_, _-_, _≤_, _<_}
 use native.Mathlib.Omega.{arith}
-use lib.Dec.{ltb, eqb}
-use borrow.Author.Tests.{eq-eqb, ne-eqb, eqb-true, lt-ltb}
+use lib.Dec.{eqb}
+use borrow.Author.Tests.{eq-eqb, ne-eqb, eqb-true}
 use Rattle.facts.specs.Odd.{bitOf}
-use Rattle.facts.proofs.Bools.{iff, below, and-left, and-right, and-both}
+use Rattle.facts.proofs.Bools.{iff, below}
 use Rattle.channel.specs.Limits.{mostNet}
 use Rattle.channel.specs.Channel.{Connection, Job, net, pieces, countTo}
 use Rattle.channel.specs.Valid.{Each, ConnectionRule, Valid}

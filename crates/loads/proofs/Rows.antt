@@ -1,14 +1,14 @@
 -- The rows of an edit: none holds exactly if the edit is accepted, each holds at one place, and so one refusal at most is given. Assumes nothing.
-use mathlib.Core.Path.{_≡_, refl, sym, ap, _∙_}
-use mathlib.Core.Bool.{Bool, true, false, _&&_}
+use mathlib.Core.Path.{_≡_, refl, sym, _∙_}
+use mathlib.Core.Bool.{true, false, _&&_}
 use mathlib.Core.Logic.{inl, inr}
 use mathlib.Core.List.{List}
 use Prim.Native.Nat.{ℕ, _+_}
 use native.Mathlib.Omega.{arith}
 use lib.ListN.{length}
+use Rattle.facts.proofs.Bools.{not-both, true-by, false-by, and-both, and-left, and-right}
 use Rattle.refusals.specs.Table.{before, Passes, Refuses, Sound}
 use Rattle.refusals.proofs.Laws.{behind-row, refuses-left, refuses-right, passes-or, refuses-row, passes-row, sound-row, sound-front, nowhere-one}
-use Rattle.facts.proofs.Bools.{whether, not-both, true-by, false-by, and-both, and-left, and-right}
 use Rattle.channel.specs.Channel.{Connection}
 use Rattle.loads.specs.Edits.{Edit, clear, add, drop, move, hasRoom, good, hasNumber, editRows, accepted}
 

@@ -1,7 +1,6 @@
 -- A list worked by hand: its loads, where it is red, and three edits of it. Assumes nothing.
 use mathlib.Core.Path.{_≡_, refl}
 use mathlib.Core.List.{List, [], _∷_}
-use lib.Dec.{leb}
 use Rattle.channel.specs.Channel.{Connection, net, pieces, connectionAt}
 use Rattle.channel.specs.Relaxed.{without}
 use Rattle.channel.specs.Worked.{connection}

@@ -1,5 +1,5 @@
 -- Why `append` is right: the loads go up where the connection brings a net, and it stands behind the last. Assumes nothing.
-use mathlib.Core.Path.{_≡_, refl, sym, ap, _∙_}
+use mathlib.Core.Path.{_≡_, sym, ap, _∙_}
 use mathlib.Core.Bool.{Bool, false, _&&_, not, cond}
 use mathlib.Core.Logic.{_⊎_, inl, inr, ⊎-elim}
 use mathlib.Core.List.{List, [], _∷_, _++_}
@@ -9,16 +9,16 @@ use lib.ListN.{length, getD, set, length-set, length-append}
 use lib.Seq.{getD-set-same, getD-set-other}
 use Rattle.channel.specs.Limits.{mostConnections}
 use Rattle.channel.specs.Channel.{Connection}
-use Rattle.jobfile.specs.Rows.{tab}
-use Rattle.jobfile.proofs.Decode.{tab-length}
 use Rattle.loads.specs.Loads.{brings, load}
 use Rattle.loads.specs.Edits.{add, edited}
 use Rattle.loads.proofs.Edits.{load-add}
+use Rattle.jobfile.specs.Rows.{tab}
+use Rattle.jobfile.proofs.Decode.{tab-length}
 use Rattle.state.specs.State.{recordAt, loadsAt, stateBytes, atMost, mIn, connectionIn, listIn, loadIn, up}
-use Rattle.panel.specs.Does.{carried, Relisted}
 use Rattle.state.specs.Walks.{inSpan, otherOver, turn, Turned}
 use Rattle.state.proofs.Walks.{most-low}
 use Rattle.state.proofs.Lists.{tab-same, tab-more}
+use Rattle.panel.specs.Does.{carried, Relisted}
 use Rattle.panel.proofs.Carried.{carried-add, span-crosses, over-all}
 
 module _ (s s₁ : List ℕ) (m l r k : ℕ) (long : length s ≡ stateBytes) (size : m ≡ mIn s) (few : m < mostConnections) (turned : Turned (λ x. inSpan l (r + 1) x && not (otherOver s m m k x)) false s s₁) where

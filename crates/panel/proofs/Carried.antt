@@ -3,7 +3,7 @@ use mathlib.Core.Path.{_≡_, refl, sym, ap, _∙_}
 use mathlib.Core.Bool.{Bool, true, false, _&&_, not, cond}
 use mathlib.Core.Logic.{⊎-elim}
 use mathlib.Core.List.{List}
-use Prim.Native.Nat.{ℕ, suc, _+_, _≤_, _<_}
+use Prim.Native.Nat.{ℕ, _+_, _<_}
 use native.Mathlib.Omega.{arith}
 use lib.Dec.{ltb}
 use borrow.Author.Tests.{lt-ltb, le-ltb}
@@ -11,15 +11,15 @@ use Rattle.facts.specs.Odd.{bitOf}
 use Rattle.facts.proofs.Bools.{iff}
 use Rattle.channel.specs.Channel.{Connection}
 use Rattle.channel.specs.Relaxed.{without}
-use Rattle.jobfile.specs.Rows.{tab}
-use Rattle.jobfile.proofs.Decode.{tab-length}
 use Rattle.loads.specs.Loads.{crosses, covered}
 use Rattle.loads.proofs.Covers.{crosses-says, crosses-is, covered-marked}
 use Rattle.loads.proofs.Edits.{without-none}
-use Rattle.state.specs.State.{recordAt, loadsAt, mIn, connectionIn, listIn, up, down}
-use Rattle.panel.specs.Does.{carried}
+use Rattle.jobfile.specs.Rows.{tab}
+use Rattle.jobfile.proofs.Decode.{tab-length}
+use Rattle.state.specs.State.{mIn, connectionIn, listIn, up, down}
 use Rattle.state.specs.Walks.{larger, inSpan, withMark, otherOver}
 use Rattle.state.proofs.Walks.{larger-one, larger-second, span-says, span-is}
+use Rattle.panel.specs.Does.{carried}
 
 module _ (a b l : ℕ) where
   pub carried-up : a < b → carried a b l ≡ up l

@@ -2,16 +2,16 @@
 -- never red. Assumes nothing.
 use mathlib.Core.Path.{_≡_, refl, sym, subst}
 use mathlib.Core.List.{List}
-use Prim.Native.Nat.{ℕ, _≤_, _<_}
+use Prim.Native.Nat.{ℕ, _<_}
 use native.Mathlib.Omega.{arith}
 use Rattle.channel.specs.Channel.{Connection, Job, T}
 use Rattle.channel.specs.Valid.{Valid}
 use Rattle.channel.specs.Routing.{Routable}
 use Rattle.loads.specs.Loads.{load}
 use Rattle.loads.proofs.Red.{red-none}
+use Rattle.state.specs.State.{nIn, tIn, listIn, Kept}
 use Rattle.panel.specs.declared.Sign.{Sign}
 use Rattle.panel.specs.declared.Sign.the-variants as sign
-use Rattle.state.specs.State.{nIn, tIn, listIn, Kept}
 use Rattle.panel.specs.Does.{Signs}
 
 -- a job of the panel: its columns, as many tracks, and its connections

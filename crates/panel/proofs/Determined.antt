@@ -2,26 +2,26 @@
 use mathlib.Core.Path.{_≡_, refl, sym, ap, subst, _∙_}
 use mathlib.Core.Logic.{⊎-elim}
 use mathlib.Core.List.{List}
-use Prim.Native.Nat.{ℕ, zero, suc, _+_, _-_, _*_, _/_, _%_, _≤_, _<_}
+use Prim.Native.Nat.{ℕ, zero, suc, _+_, _-_, _/_, _%_, _≤_, _<_}
 use native.Mathlib.Omega.{arith}
 use lib.ListN.{length, getD}
 use lib.Seq.{ext-getD}
+use Rattle.facts.proofs.Bools.{below}
 use Rattle.refusals.specs.Table.{before, Sound}
 use Rattle.refusals.proofs.Laws.{decided-one, sound-row, nowhere-one}
-use Rattle.facts.proofs.Bools.{below}
 use Rattle.channel.specs.Channel.{Connection, connectionAt}
-use Rattle.jobfile.specs.Rows.{tab, connectionSize}
-use Rattle.jobfile.proofs.Decode.{tab-length}
 use Rattle.loads.specs.Edits.{Edit, clear, add, drop, move}
 use Rattle.loads.proofs.Rows.{rows-sound}
 use Rattle.loads.proofs.Red.{red-one, red-green}
+use Rattle.jobfile.specs.Rows.{connectionSize}
+use Rattle.jobfile.proofs.Decode.{tab-length}
+use Rattle.state.specs.State.{recordAt, loadsAt, nIn, tIn, mIn, connectionIn, listIn, loadIn}
+use Rattle.state.proofs.Covers.{list-at}
 use Rattle.panel.specs.declared.Answer.{Answer}
 use Rattle.panel.specs.declared.Answer.the-variants as answer
 use Rattle.panel.specs.declared.Sign.{Sign}
 use Rattle.panel.specs.declared.Sign.the-variants as sign
-use Rattle.state.specs.State.{recordAt, loadsAt, stateBytes, nIn, tIn, mIn, connectionIn, listIn, loadIn}
 use Rattle.panel.specs.Does.{Relisted, Becomes, Does, makeRows, Makes, Signs}
-use Rattle.state.proofs.Covers.{list-at}
 
 -- the state with another list is one state
 module _ (s a b : List ℕ) (cs : List Connection) (f : Relisted s cs a) (g : Relisted s cs b) where

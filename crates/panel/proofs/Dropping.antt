@@ -1,5 +1,5 @@
 -- Why `remove` is right: the loads go down where no other piece is, and the connections behind move down by one. Assumes nothing.
-use mathlib.Core.Path.{_≡_, refl, sym, ap, subst, _∙_}
+use mathlib.Core.Path.{_≡_, sym, ap, subst, _∙_}
 use mathlib.Core.Bool.{Bool, true, _&&_, not, cond}
 use mathlib.Core.Logic.{_⊎_, inl, inr}
 use mathlib.Core.List.{List}
@@ -11,17 +11,17 @@ use Rattle.channel.specs.Limits.{mostConnections}
 use Rattle.channel.specs.Channel.{Connection, connectionAt}
 use Rattle.channel.specs.Relaxed.{without}
 use Rattle.channel.proofs.Relaxations.{without-length}
-use Rattle.jobfile.specs.Rows.{tab, connectionSize}
-use Rattle.jobfile.proofs.Decode.{tab-length}
 use Rattle.loads.specs.Loads.{brings, load}
 use Rattle.loads.specs.Edits.{drop, edited}
 use Rattle.loads.proofs.Edits.{load-apart}
+use Rattle.jobfile.specs.Rows.{tab, connectionSize}
+use Rattle.jobfile.proofs.Decode.{tab-length}
 use Rattle.state.specs.State.{recordAt, loadsAt, stateBytes, atMost, mIn, connectionIn, listIn, loadIn, down}
-use Rattle.panel.specs.Does.{carried, Relisted}
 use Rattle.state.specs.Walks.{inSpan, otherOver, turn, Turned, Closed}
 use Rattle.state.proofs.Walks.{most-low, turned-same}
 use Rattle.state.proofs.Covers.{list-at}
 use Rattle.state.proofs.Lists.{tab-without}
+use Rattle.panel.specs.Does.{carried, Relisted}
 use Rattle.panel.proofs.Carried.{carried-drop, span-crosses, over-list}
 
 module _ (s s₁ s₂ : List ℕ) (m i : ℕ) (long : length s ≡ stateBytes) (size : m ≡ mIn s) (most : m ≤ mostConnections) (low : i < m) (turned : Turned (λ x. inSpan (connectionIn s i .left) (connectionIn s i .right + 1) x && not (otherOver s m i (connectionIn s i .mark) x)) true s s₁) (closed : Closed (recordAt i) (connectionSize * m) s₁ s₂) where

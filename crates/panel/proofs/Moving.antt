@@ -2,30 +2,28 @@
 -- Assumes nothing.
 use mathlib.Core.Path.{_≡_, refl, sym, ap, subst, _∙_}
 use mathlib.Core.Bool.{Bool, true, false, _&&_, not, cond}
-use mathlib.Core.Logic.{⊎-elim}
 use mathlib.Core.List.{List}
-use Prim.Native.Nat.{ℕ, suc, _+_, _-_, _≤_, _<_}
+use Prim.Native.Nat.{ℕ, _+_, _-_, _≤_, _<_}
 use native.Mathlib.Omega.{arith}
 use lib.ListN.{length, getD, set, length-set}
 use lib.Seq.{getD-set-same, getD-set-other}
 use Rattle.facts.specs.Odd.{bitOf}
-use Rattle.facts.proofs.Bools.{below}
 use Rattle.channel.specs.Limits.{mostConnections}
 use Rattle.channel.specs.Channel.{Connection, connectionAt}
 use Rattle.channel.specs.Relaxed.{without}
-use Rattle.jobfile.specs.Rows.{tab}
-use Rattle.jobfile.proofs.Decode.{tab-length}
 use Rattle.loads.specs.Loads.{crosses, covered, brings, load}
 use Rattle.loads.specs.Edits.{move, moved, edited}
 use Rattle.loads.proofs.Covers.{covered-marked}
 use Rattle.loads.proofs.Edits.{load-apart, load-set}
+use Rattle.jobfile.specs.Rows.{tab}
+use Rattle.jobfile.proofs.Decode.{tab-length}
 use Rattle.state.specs.State.{recordAt, loadsAt, stateBytes, atMost, mIn, connectionIn, listIn, loadIn, up, down}
-use Rattle.panel.specs.Does.{carried, Relisted}
 use Rattle.state.specs.Walks.{larger, inSpan, otherOver, turn, Turned}
 use Rattle.state.proofs.Walks.{most-low, turned-same}
 use Rattle.state.proofs.Covers.{list-at}
 use Rattle.state.proofs.Lists.{tab-set}
 use Rattle.state.proofs.Outside.{over-same}
+use Rattle.panel.specs.Does.{carried, Relisted}
 use Rattle.panel.proofs.Carried.{carried-move, span-crosses, cut-crosses, over-list}
 
 -- the columns of a span that are not of another

@@ -1,9 +1,9 @@
 -- What is true of the loads before a call is true after it; so from a new or a cleared state on, after any sequence of calls, answered in one way or the other, they
 -- are the loads of the list that the calls describe. Assumes nothing.
 use mathlib.Core.Path.{_≡_, refl, sym, ap, subst, _∙_}
-use mathlib.Core.Bool.{Bool, true, false, cond}
+use mathlib.Core.Bool.{Bool, cond}
 use mathlib.Core.Logic.{⊎-elim}
-use mathlib.Core.List.{List, [], _∷_}
+use mathlib.Core.List.{List, []}
 use Prim.Native.Nat.{ℕ, suc, _+_, _-_, _≤_, _<_}
 use native.Mathlib.Omega.{arith}
 use lib.ListN.{length, getD}
@@ -11,17 +11,17 @@ use Rattle.facts.proofs.Bools.{below, never}
 use Rattle.facts.proofs.Lists.{zeros}
 use Rattle.channel.specs.Limits.{mostConnections}
 use Rattle.channel.specs.Channel.{Connection}
-use Rattle.jobfile.specs.Rows.{tab}
-use Rattle.jobfile.proofs.Decode.{tab-length}
 use Rattle.loads.specs.Loads.{load}
-use Rattle.loads.specs.Edits.{Edit, clear, add, drop, move, edited, editRows, accepted, after}
+use Rattle.loads.specs.Edits.{Edit, clear, add, drop, move, edited, accepted, after}
 use Rattle.loads.proofs.Edits.{load-most, Near, load-edited}
 use Rattle.loads.proofs.Rows.{passes-accepted, refuses-accepted}
+use Rattle.jobfile.specs.Rows.{tab}
+use Rattle.jobfile.proofs.Decode.{tab-length}
+use Rattle.state.specs.State.{loadsAt, stateBytes, atMost, nIn, tIn, mIn, connectionIn, listIn, Kept, emptyPanel}
+use Rattle.state.proofs.Walks.{most-most, up-more}
 use Rattle.panel.specs.declared.Answer.{Answer}
 use Rattle.panel.specs.declared.Answer.the-variants as answer
-use Rattle.state.specs.State.{loadsAt, stateBytes, atMost, nIn, tIn, mIn, connectionIn, listIn, loadIn, Kept, up, emptyPanel}
 use Rattle.panel.specs.Does.{carried, Relisted, Becomes, Does, Makes, Ran, none, one}
-use Rattle.state.proofs.Walks.{most-most, up-more}
 use Rattle.panel.proofs.Carried.{carried-up, carried-down, carried-same}
 
 list-length : (s : List ℕ) → length (listIn s) ≤ mostConnections

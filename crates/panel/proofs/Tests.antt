@@ -10,8 +10,8 @@ use Rattle.facts.proofs.Bools.{both, not-both, and-left, and-right, false-by}
 use Rattle.refusals.specs.Table.{Refuses, Passes}
 use Rattle.refusals.proofs.Laws.{refuses-row, passes-row}
 use Rattle.channel.specs.Limits.{mostConnections, Limits}
-use Rattle.jobfile.proofs.Decode.{tab-length}
 use Rattle.loads.specs.Edits.{hasRoom, good, hasNumber}
+use Rattle.jobfile.proofs.Decode.{tab-length}
 use Rattle.state.specs.State.{mIn, connectionIn, listIn}
 use Rattle.panel.specs.Does.{makeRows}
 

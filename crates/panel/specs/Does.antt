@@ -10,11 +10,11 @@ use Rattle.channel.specs.Limits.{Limits}
 use Rattle.channel.specs.Channel.{Connection}
 use Rattle.loads.specs.Loads.{load, Green, Red}
 use Rattle.loads.specs.Edits.{Edit, clear, add, drop, move, edited, editRows}
+use Rattle.state.specs.State.{recordAt, loadsAt, emptyPanel, nIn, tIn, listIn, loadIn, up, down}
 use Rattle.panel.specs.declared.Answer.{Answer}
 use Rattle.panel.specs.declared.Answer.the-variants as answer
 use Rattle.panel.specs.declared.Sign.{Sign}
 use Rattle.panel.specs.declared.Sign.the-variants as sign
-use Rattle.state.specs.State.{recordAt, loadsAt, emptyPanel, nIn, tIn, listIn, loadIn, up, down}
 
 -- a byte goes as a load goes, which was a and is b: one more, one less, or as it was
 unfoldable pub carried : ℕ → ℕ → ℕ → ℕ

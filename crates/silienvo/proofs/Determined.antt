@@ -5,12 +5,13 @@ use mathlib.Core.List.{List}
 use Prim.Native.Nat.{ℕ}
 use lib.ListN.{length}
 use contract.Lifetimes.{Lfts}
-use borrow.Fn.World.{ArgsD, ResD}
-use borrow.Fn.Kinds.{endedOf}
 use denote.Triple.Clauses.{AtExit}
 use denote.Ref.{now}
+use borrow.Fn.World.{ArgsD, ResD}
+use borrow.Fn.Kinds.{endedOf}
 use Rattle.loads.specs.Edits.{add, drop, move}
 use Rattle.jobfile.proofs.Exact.{reads-one}
+use Rattle.panel.proofs.Determined.{does-one, makes-one, signs-one}
 use Rattle.route.proofs.Answers.{routes-one}
 use Rattle.judge.proofs.Laws.{judges-one}
 use Rattle.rows.proofs.Laws.{lines-one}
@@ -18,7 +19,6 @@ use Rattle.lines.proofs.Determined.{writes-one as line-writes-one}
 use Rattle.part.specs.P1.{p1}
 use Rattle.part.proofs.Answers.{writes-one}
 use Rattle.reply.proofs.Exact.{replies-one}
-use Rattle.panel.proofs.Determined.{does-one, makes-one, signs-one}
 use Rattle.editor.specs.declared.Connection.{Connection as Record}
 use Rattle.editor.proofs.Answers.{edits-one}
 use Rattle.editor.proofs.Panels.{routes-panel-one}

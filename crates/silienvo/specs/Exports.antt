@@ -8,6 +8,11 @@ use Rattle.jobfile.specs.declared.Read.{Read}
 use Rattle.jobfile.specs.declared.Read.the-variants as read
 use Rattle.jobfile.specs.Rows.{trailerSize, connectionSize}
 use Rattle.jobfile.specs.Reads.{Reads, Stand}
+use Rattle.panel.specs.declared.Answer.{Answer as PanelAnswer}
+use Rattle.panel.specs.declared.Answer.the-variants as done
+use Rattle.panel.specs.declared.Sign.{Sign}
+use Rattle.panel.specs.declared.Sign.the-variants as sign
+use Rattle.panel.specs.Does.{Does, Makes, Signs}
 use Rattle.route.specs.declared.Verdict.{Verdict}
 use Rattle.route.specs.declared.Verdict.the-variants as verdict
 use Rattle.route.specs.Routes.{Routes}
@@ -30,11 +35,6 @@ use Rattle.reply.specs.Replies.{Replies}
 use Rattle.editor.specs.declared.Connection.{Connection as Record}
 use Rattle.editor.specs.Edits.{Edits}
 use Rattle.editor.specs.Panels.{RoutesPanel}
-use Rattle.panel.specs.declared.Answer.{Answer as PanelAnswer}
-use Rattle.panel.specs.declared.Answer.the-variants as done
-use Rattle.panel.specs.declared.Sign.{Sign}
-use Rattle.panel.specs.declared.Sign.the-variants as sign
-use Rattle.panel.specs.Does.{Does, Makes, Signs}
 use Rattle.silienvo.specs.declared.SilienvoAnswer.{SilienvoAnswer}
 use Rattle.silienvo.specs.declared.SilienvoJob.{SilienvoJob}
 

@@ -1,21 +1,21 @@
 -- Why a walk is right: a column is covered by another piece exactly if the furthest that the pieces set down from the walk's first column on reach is at it or
 -- behind it. Assumes nothing.
 use mathlib.Core.Path.{_≡_, sym, ap, subst, _∙_}
-use mathlib.Core.Bool.{Bool, true, false, not}
+use mathlib.Core.Bool.{true, false, not}
 use mathlib.Core.Logic.{⊎-elim}
 use mathlib.Core.List.{List}
 use Prim.Native.Nat.{ℕ, zero, suc, _+_, _-_, _≤_, _<_}
 use native.Mathlib.Omega.{arith}
 use lib.Dec.{leb, ltb}
-use lib.ListN.{length, getD}
+use lib.ListN.{getD}
 use borrow.Author.Tests.{leb-true, le-leb, lt-leb, lt-ltb, le-ltb}
 use Rattle.facts.proofs.Bools.{iff, below}
 use Rattle.channel.specs.Channel.{Connection, netIn, net, pieces, connectionAt}
 use Rattle.channel.specs.Relaxed.{without}
-use Rattle.jobfile.specs.Rows.{tab}
-use Rattle.jobfile.proofs.Decode.{tab-length, tab-at}
 use Rattle.loads.specs.Loads.{crosses, covered}
 use Rattle.loads.proofs.Covers.{crosses-says, crosses-is, covered-alone, but-says, but-is}
+use Rattle.jobfile.specs.Rows.{tab}
+use Rattle.jobfile.proofs.Decode.{tab-length, tab-at}
 use Rattle.state.specs.State.{connectionIn}
 use Rattle.state.specs.Walks.{larger, oneNet, withMark, otherOver, SetDown, furthest}
 use Rattle.state.proofs.Walks.{larger-one, larger-first, larger-second}

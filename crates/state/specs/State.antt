@@ -8,8 +8,8 @@ use lib.Dec.{leb, ltb}
 use lib.ListN.{getD, replicate}
 use Rattle.channel.specs.Limits.{mostColumns, mostConnections}
 use Rattle.channel.specs.Channel.{Connection}
-use Rattle.jobfile.specs.Rows.{tab, connectionSize, connectionRead}
 use Rattle.loads.specs.Loads.{load}
+use Rattle.jobfile.specs.Rows.{tab, connectionSize, connectionRead}
 
 -- where connection i + 1 stands, and the load of column 0; how many bytes a state has
 abbrev pub recordAt : ℕ → ℕ

@@ -1,17 +1,17 @@
 -- Stepping stones: the walks of an edit. How far the pieces of a net reach, and the loads of some columns turned. `added`, `dropped` and `shifted`
 -- (proofs/Adding.antt, Dropping.antt and Moving.antt of `panel`) say what they come to. Assumes nothing: these are definitions.
 use mathlib.Core.Path.{_≡_}
-use mathlib.Core.Bool.{Bool, true, _&&_, not, cond}
+use mathlib.Core.Bool.{Bool, true, _&&_, cond}
 use mathlib.Core.Logic.{_⊎_}
 use mathlib.Core.List.{List}
-use Prim.Native.Nat.{ℕ, zero, suc, _+_, _-_, _≤_, _<_}
+use Prim.Native.Nat.{ℕ, zero, suc, _+_, _≤_, _<_}
 use lib.Dec.{leb, ltb, eqb}
 use lib.ListN.{length, getD}
 use Rattle.channel.specs.Limits.{mostColumns}
 use Rattle.channel.specs.Channel.{Connection, netIn}
 use Rattle.channel.specs.Relaxed.{without}
-use Rattle.jobfile.specs.Rows.{tab, connectionSize}
 use Rattle.loads.specs.Loads.{covered}
+use Rattle.jobfile.specs.Rows.{tab, connectionSize}
 use Rattle.state.specs.State.{loadsAt, connectionIn, loadIn, up, down}
 
 -- the larger of two, and the smaller

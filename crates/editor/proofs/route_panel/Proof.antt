@@ -4,8 +4,8 @@ use native.Mathlib.Omega.{arith}
 use denote.Ref.{now}
 use borrow.Author.Needs.{needs}
 use Rattle.facts.proofs.Tells.{told-yes, told-no}
-use Rattle.part.specs.P1.{p1}
 use Rattle.state.specs.State.{nIn, tIn}
+use Rattle.part.specs.P1.{p1}
 use Rattle.editor.specs.Panels.{OfPart}
 use Rattle.editor.proofs.Panels.{routes-list}
 use Rattle.editor.proofs.route_panel.Statement.{statement}

@@ -1,13 +1,12 @@
 -- `panel::add` meets its contract: the two rows in their order, and else the list with one more.
 use mathlib.Core.Path.{refl, sym, ap, subst, _∙_}
-use mathlib.Core.Bool.{not}
 use Prim.Native.Nat.{ℕ, _+_}
 use native.Mathlib.Omega.{arith}
 use denote.Ref.{now}
 use borrow.Author.Needs.{needs}
 use borrow.Author.Tests.{lt-ltb, le-ltb, not-true, not-false}
-use Rattle.refusals.specs.Table.{Refuses}
 use Rattle.facts.proofs.Bools.{and-both}
+use Rattle.refusals.specs.Table.{Refuses}
 use Rattle.channel.specs.Limits.{mostConnections}
 use Rattle.loads.specs.Edits.{add, editRows, accepted}
 use Rattle.loads.proofs.Rows.{full, bad, accepted-passes}

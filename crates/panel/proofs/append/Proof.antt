@@ -1,6 +1,6 @@
 -- `panel::append` meets its contract: the loads of its columns are turned, then its bytes and the number are written (proofs/Adding.antt).
-use denote.Ref.{now}
 use native.Mathlib.Omega.{arith}
+use denote.Ref.{now}
 use borrow.Author.Needs.{needs}
 use Rattle.panel.proofs.Adding.{added}
 use Rattle.panel.proofs.append.Statement.{statement}

@@ -1,5 +1,5 @@
 -- `panel::replace` meets its contract: the loads of the columns that are left and of those that come are turned, and the columns are written (proofs/Moving.antt).
-use mathlib.Core.Path.{sym, ap, subst, _∙_}
+use mathlib.Core.Path.{sym, subst, _∙_}
 use Prim.Native.Nat.{ℕ, _+_, _≤_}
 use native.Mathlib.Omega.{arith}
 use denote.Ref.{now}

@@ -1,10 +1,10 @@
 -- `state::close` passes the bytes; those passed have moved down by a connection (the invariant).
-use denote.Ref.{now}
 use mathlib.Core.Path.{_≡_, refl, subst}
 use Prim.Native.Nat.{ℕ, suc, _+_, _-_, _≤_}
 use native.Mathlib.Omega.{arith}
-use borrow.Author.Needs.{needs}
 use lib.ListN.{length, getD, set}
+use denote.Ref.{now}
+use borrow.Author.Needs.{needs}
 use Rattle.jobfile.specs.Rows.{connectionSize}
 use Rattle.state.specs.State.{stateBytes}
 use Rattle.state.specs.Walks.{Closed}

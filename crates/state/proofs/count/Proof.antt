@@ -1,5 +1,5 @@
 -- `state::count` meets its contract: a number above the most reads as the most, and a slice of the whole tells its length.
-use mathlib.Core.Path.{sym, ap, _∙_}
+use mathlib.Core.Path.{sym, _∙_}
 use native.Mathlib.Omega.{arith}
 use borrow.Author.Needs.{needs}
 use Rattle.state.proofs.Walks.{most-low, most-high}

@@ -7,11 +7,11 @@ use mathlib.Core.List.{List}
 use Prim.Native.Nat.{ℕ, suc, _+_, _-_, _≤_}
 use native.Mathlib.Omega.{arith}
 use lib.Dec.{ltb}
-use lib.ListN.{length, getD, set}
+use lib.ListN.{length}
 use denote.Ref.{now}
 use borrow.Author.Needs.{needs}
 use borrow.Author.Tests.{lt-ltb, le-ltb}
-use Rattle.state.specs.State.{loadsAt, stateBytes}
+use Rattle.state.specs.State.{stateBytes}
 use Rattle.state.specs.Walks.{larger, inSpan, furthest, Turned}
 use Rattle.state.proofs.Walks.{span-is, span-behind, span-empty, span-next, furthest-more, turned-none, turned-stays, turned-more}
 use Rattle.state.proofs.turn_unreached.Statement.{statement}
