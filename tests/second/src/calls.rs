@@ -48,7 +48,7 @@ fn at_a_limit(panel: &[u8; PANEL], op: Op) -> Vec<&'static str> {
     let mut list = Kept::of(Panel::of(panel)).list;
     let own = match op {
         Op::Make { columns, tracks } => return [(columns == 255, "N 255"), (tracks == 36, "T 36")].into_iter().filter_map(held).collect(),
-        Op::Clear => return vec![],
+        Op::Clear => return held((panel[0] != panel[1] && panel[1] != panel[2], "N, T and M differ")).into_iter().collect(),
         Op::Add { left, right, mark } => {
             list.push(Connection { left: left as u8, right: right as u8, mark });
             list[list.len() - 1]
@@ -56,8 +56,12 @@ fn at_a_limit(panel: &[u8; PANEL], op: Op) -> Vec<&'static str> {
         Op::Drop { number } => list[number as usize - 1],
         Op::Move { number, left, right } => Connection { left: left as u8, right: right as u8, ..list[number as usize - 1] },
     };
+    let first = matches!(op, Op::Drop { number: 1 } | Op::Move { number: 1, .. }) && list.len() > 1;
     let over_one = own.net() > 0 && list.iter().any(|other| other.net() == 0 && other.left <= own.right && own.left <= other.right);
-    [(list.len() == ROOM, "M 64"), (panel[0] == 255, "N 255"), (over_one, "over one alone")].into_iter().filter_map(held).collect()
+    [(list.len() == ROOM, "M 64"), (panel[0] == 255, "N 255"), (over_one, "over one alone"), (first, "number 1")]
+        .into_iter()
+        .filter_map(held)
+        .collect()
 }
 
 fn held((holds, words): (bool, &'static str)) -> Option<&'static str> {
