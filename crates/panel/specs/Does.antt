@@ -42,7 +42,7 @@ abbrev pub Does : List ℕ → Edit → Answer → List ℕ → Type 0
 Does s e answer.Done s′ = Passes (editRows (nIn s) (listIn s) e) × Becomes s e s′
 Does s e (answer.Refused num place) s′ = Refuses (editRows (nIn s) (listIn s) e) num place × (s′ ≡ s)
 
--- row 2 of a new state: N or T outside its limits
+-- row 2 of a new state, which has no connection, and the least K: N or T outside its limits
 abbrev pub makeRows : ℕ → ℕ → Rows
 makeRows n t = row 2 (nowhere (Limits n t 0 1 → ⊥))
 
