@@ -1,5 +1,7 @@
 // The editor's entry for P1: a lent list of records, each with left, right and mark, or of their bytes, routed as the file with those connections is.
 // Document 01, "The job file". A thin walk copies the records to the bytes that the covered core reads.
+#![tactic(auto)]
+
 ghost use Rattle.std.specs.Prelude.{◌≡◌};
 ghost use Rattle.facts.specs.Tells.{Tells};
 ghost use Rattle.part.specs.P1.{p1};
@@ -20,7 +22,7 @@ const BYTES: usize = CONNECTION * MOST_CONNECTIONS;
 const FILE: usize = HEAD * P1_TRACKS + P1_RIGHT_ENDS + BYTES + TRAILER;
 
 #[repr(C)]
-#[derive(Drop)]
+#[derive(Clone, Copy)]
 pub struct Connection {
     pub left: u8,
     pub right: u8,

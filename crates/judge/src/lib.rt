@@ -1,5 +1,7 @@
 // The judge of a routing that somebody brings: legal, or refused by the file's rows or by row 11.
 // Document 01, "Channel, connection, legal", and row 11 of "Replies by number". specs/Judges.antt has the row and the judgements.
+#![tactic(auto)]
+
 ghost use Rattle.std.specs.Prelude.{◌≡◌, length};
 ghost use Rattle.refusals.specs.Table.{Searched};
 ghost use Rattle.jobfile.specs.Rows.{t_of, m_of};
@@ -12,7 +14,7 @@ use marks::MARKS;
 use text::wide;
 
 // What brought labels are: a legal routing of the file's job, or refused by a row of the table at a place.
-#[derive(Drop)]
+#[derive(Clone, Copy)]
 pub enum Judgement {
     Legal,
     Refused { number: u8, place: usize },

@@ -1,5 +1,7 @@
 // A clause line by its number, into a lent buffer. Document 01, "Clause lines", and rows 1 to 5, 9 and 10 of "Replies by number".
 // specs/Lined.antt has the lines by their numbers, specs/Writes.antt the answers; the text of a clause is that of crate dimacs.
+#![tactic(auto)]
+
 ghost use Rattle.std.specs.Prelude.{[], ◌∷◌, ◌+◌, ◌-◌, ◌*◌, ◌≤◌, ◌<◌, length};
 ghost use Rattle.text.specs.Text.{Wrote};
 ghost use Rattle.dimacs.specs.Lines.{literal_text, literals_text, clause_text, header_text};
@@ -15,7 +17,7 @@ ghost use Rattle.lines.specs.Writes.{WritesLine};
 pub const MOST_LINE: usize = 2 * channel::MOST_BITS * 5 + 2;
 
 // A line of so many bytes, or refused by a row of the table at a place.
-#[derive(Drop)]
+#[derive(Clone, Copy)]
 pub enum Answer {
     Line(usize),
     Refused { number: u8, place: usize },

@@ -1,6 +1,8 @@
 // The marks of taken segments, one for each track and segment (document 01, "The job file": "the marks of taken segments are kept for all of them").
 // A mark is 0, or the segment's owner: the net of the connection that took it, or that connection if it is on its own. All that are on a segment have one
 // owner. Functions that only read the marks are lent them.
+#![tactic(auto)]
+
 ghost use Rattle.std.specs.Prelude.{◌≡◌, ◌+◌, ◌-◌, ◌≤◌, ◌<◌};
 ghost use Rattle.channel.specs.Limits.{most_tracks, most_segments};
 ghost use Rattle.marks.specs.Marking.{mark_bytes, base, free, all_free, fill, fits_run, taken_run, Among, first, last, Inside, fits_in, taken_in};

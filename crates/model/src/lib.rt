@@ -1,6 +1,8 @@
 // What a model makes of a job's clauses: the codes that its variables spell, and the first clause that these codes make false.
 // Document 01, "Clause lines" and row 8 of "Replies by number". The clauses are walked row by row as in crate places: at most one clause of a row is
 // false, the one that forbids the code of the row's connection.
+#![tactic(auto)]
+
 ghost use Rattle.std.specs.Prelude.{◌≡◌, ◌+◌, ◌-◌, ◌*◌, ◌^◌, ◌≤◌, ◌<◌, eqb};
 ghost use Rattle.facts.specs.Odd.{bit_of};
 ghost use Rattle.channel.specs.Limits.{most_tracks, most_connections, most_bits, most_values};
@@ -16,7 +18,7 @@ use occupancy::TABLE;
 use places::{Row, count_to};
 
 // What a walk brings: the number, from 1, of the first clause that is false; or how many were passed.
-#[derive(Drop)]
+#[derive(Clone, Copy)]
 pub enum Walk {
     False(usize),
     Passed(usize),

@@ -1,5 +1,7 @@
 // The layout editor's panel: N, T, a list of connections and beside it the load of each column, as one lent array of bytes. Document 02, A2.
 // An edit walks the columns that change, and the list once if its connection is a piece of a net; one on its own asks nothing of the list.
+#![tactic(auto)]
+
 ghost use Rattle.std.specs.Prelude.{◌≡◌, true, ◌&&◌, ◌+◌, ◌≤◌, ◌<◌, leb, length};
 ghost use Rattle.channel.specs.Limits.{most_columns, most_connections};
 ghost use Rattle.loads.specs.Edits.{clear, add, drop, move, edited, good};
@@ -11,13 +13,13 @@ use jobfile::{CONNECTION, within_limits};
 use state::{LIST, LOADS, STATE, Span, close, count, later, turn_outside, turn_span, wipe};
 use text::wide;
 
-#[derive(Drop)]
+#[derive(Clone, Copy)]
 pub enum Answer {
     Done,
     Refused { number: u8, place: usize },
 }
 
-#[derive(Drop)]
+#[derive(Clone, Copy)]
 pub enum Sign {
     Green,
     Red(usize),

@@ -1,5 +1,7 @@
 // House parts: their tables, and the writer of a part's job file. Document 01, "House part P1". What is written here of P1 alone are its numbers and its
 // tables; the rest takes a part's numbers and tables.
+#![tactic(auto)]
+
 ghost use Rattle.std.specs.Prelude.{◌≡◌, [], ◌∷◌, cond, ◌+◌, ◌-◌, ◌*◌, ◌≤◌, ◌<◌, leb, length};
 ghost use Rattle.facts.specs.Tells.{Tells};
 ghost use Rattle.text.specs.Text.{Wrote};
@@ -30,7 +32,7 @@ const P1_ENDS: [u8; P1_RIGHT_ENDS] = [
 const P1_STARTS: [usize; P1_TRACKS + 1] = [0, 6, 12, 18, 24, 27, 30, 32, 34];
 
 // The answer: the length of the file that was written, or a refusal.
-#[derive(Drop)]
+#[derive(Clone, Copy)]
 pub enum Written {
     File(usize),
     Refused { number: u8, place: usize },

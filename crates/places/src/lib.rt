@@ -1,5 +1,7 @@
 // The places of a job's clauses, walked row by row in the order of document 01, "Clause lines": the clause with a number, and how many there are.
 // A row is a stage and a connection; its places are the codes that are forbidden there. Whoever goes over the clauses goes from row to row by `next_row`.
+#![tactic(auto)]
+
 ghost use Rattle.std.specs.Prelude.{◌≡◌, ℕ, ◌+◌, ◌-◌, ◌*◌, ◌^◌, ◌≤◌, ◌<◌, length};
 ghost use Rattle.channel.specs.Limits.{most_tracks, most_connections};
 ghost use Rattle.clauses.specs.Clauses.{bits_for};
@@ -14,7 +16,7 @@ use occupancy::TABLE;
 const MANY: usize = (MOST_CONNECTIONS + 2) * (MOST_CONNECTIONS * MOST_CODES);
 
 // A clause's place: a connection, counted from 0, and the code that it forbids; two connections and the code; or how far behind the last one a number lies.
-#[derive(Drop)]
+#[derive(Clone, Copy)]
 pub enum Place {
     One(usize, Code),
     Two(usize, usize, Code),
@@ -22,21 +24,21 @@ pub enum Place {
 }
 
 // How many bits a code has, and how many codes there are.
-#[derive(Drop)]
+#[derive(Clone, Copy)]
 pub struct Size {
     pub w: u8,
     pub top: u8,
 }
 
 // Stage 0 is group 1, stage 1 group 2, and stage h + 2 has connection h + 1 in group 3, with each connection i + 1 behind it.
-#[derive(Drop)]
+#[derive(Clone, Copy)]
 pub struct Row {
     pub stage: usize,
     pub i: usize,
 }
 
 // Where a number lies: behind so many places of a row. At the end of the walk: by how many it lies behind the last place.
-#[derive(Drop)]
+#[derive(Clone, Copy)]
 pub struct Spot {
     pub row: Row,
     pub rest: usize,

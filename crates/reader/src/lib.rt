@@ -1,12 +1,14 @@
 // The reader over a solver's reply: it keeps the lent text and the place reached in it. Document 01, "A solver's reply".
 // The functions over the struct put it together or take it apart. `read_from`, which does the work, takes the slice and the number; `read_all`,
 // with plain parameters, is what the answer to a reply goes through.
+#![tactic(auto)]
+
 ghost use Rattle.std.specs.Prelude.{◌≡◌, ◌≤◌, drop};
 ghost use Rattle.channel.specs.Limits.{most_variables};
 ghost use Rattle.scan.specs.Marks.{Done};
 
 // The lent text, and the place reached in it.
-#[derive(Drop)]
+#[derive(Clone, Copy)]
 pub struct Reader<'a> {
     pub text: &'a [u8],
     pub at: usize,

@@ -20,7 +20,7 @@ const LINES: usize = 5;
 const LENT: [u8; MOST_CONNECTIONS] = [0; MOST_CONNECTIONS];
 
 // How many cuts came to each: a refusal that changes no lent byte; the whole reply's answer and labels; anything else.
-#[derive(Drop)]
+#[derive(Clone, Copy)]
 struct Tally {
     refused: u64,
     same: u64,

@@ -1,5 +1,7 @@
 // The answer to a solver's reply: a legal routing's labels if its model is one of the job's clauses, what it claims, or the first row of the
 // table that holds. Document 01, "A solver's reply" and rows 1 to 9 of "Replies by number". specs/Replies.antt has the answers.
+#![tactic(auto)]
+
 ghost use Rattle.std.specs.Prelude.{◌≡◌, ◌+◌, ◌*◌, ◌≤◌, ◌<◌, length};
 ghost use Rattle.channel.specs.Limits.{most_connections, most_codes};
 ghost use Rattle.jobfile.specs.Rows.{job_of};
@@ -15,7 +17,7 @@ use model::Walk;
 use text::wide;
 
 // What a reply comes to. Claimed and Unknown are the solver's word, and say nothing of the job.
-#[derive(Drop)]
+#[derive(Clone, Copy)]
 pub enum Answer {
     Accepted,
     Claimed,

@@ -1,6 +1,8 @@
 // What the routing program says: the text that it prints, made in a lent buffer, and the status that it ends with. The program itself only reads and
 // writes.
 // Document 01, "Numbers to hold against it": the program's lines. specs/Report.antt has them.
+#![tactic(auto)]
+
 ghost use Rattle.std.specs.Prelude.{◌+◌, ◌≤◌, length};
 ghost use Rattle.text.specs.Text.{Wrote};
 ghost use Rattle.report.specs.Report.{verdict_text, refused_text, Printed};
@@ -34,7 +36,7 @@ const FIRST_LINE: usize = 40;
 pub const TEXT: usize = FIRST_LINE + MOST_CONNECTIONS * ROW;
 
 // What the program says: the length of its text, and the status that it ends with.
-#[derive(Drop)]
+#[derive(Clone, Copy)]
 pub struct Said {
     pub length: usize,
     pub status: u8,

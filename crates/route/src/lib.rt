@@ -1,5 +1,7 @@
 // The router: the first routing in track order and the need, or the verdict that a budget allows.
 // Document 01, "Trials and need": placing a connection means trying its tracks in order, and a track that fits leads on to placing the next connection.
+#![tactic(auto)]
+
 ghost use Rattle.std.specs.Prelude.{◌≡◌, ◌+◌, ◌-◌, ◌≤◌, ◌<◌, length};
 ghost use Rattle.search.specs.Tree.{place, tries};
 ghost use Rattle.jobfile.specs.Rows.{t_of, m_of, job_of};
@@ -15,7 +17,7 @@ use occupancy::TABLE;
 use text::wide;
 
 // The answer to a file: a verdict with the reported trials, or the number and the place of a refusal.
-#[derive(Drop)]
+#[derive(Clone, Copy)]
 pub enum Verdict {
     Routed(u32),
     Unroutable(u32),
@@ -24,7 +26,7 @@ pub enum Verdict {
 }
 
 // How a search below some connection ends: all are placed, or none can be, each with what is left of the budget; or the budget is spent.
-#[derive(Drop)]
+#[derive(Clone, Copy)]
 enum Step {
     Found(u32),
     Dead(u32),

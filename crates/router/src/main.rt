@@ -15,7 +15,7 @@ const FAILED: u8 = 4;
 const STATUS: i32 = 3;
 
 // What was read: how many bytes, and whether a read failed.
-#[derive(Drop)]
+#[derive(Clone, Copy)]
 struct Got {
     length: usize,
     failed: bool,

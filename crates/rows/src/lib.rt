@@ -1,5 +1,7 @@
 // The lines of a routing: connection, track, first and last occupied segment.
 // Document 01, "Numbers to hold against it": the lines of the connections. specs/Rows.antt has them, specs/Lines.antt the answers for a brought routing.
+#![tactic(auto)]
+
 ghost use Rattle.std.specs.Prelude.{◌+◌, ◌*◌, ◌≤◌, length};
 ghost use Rattle.text.specs.Text.{Wrote};
 ghost use Rattle.channel.specs.Routing.{Routing};
@@ -20,7 +22,7 @@ pub const SMALL: u8 = 2;
 pub const ROW: usize = 16;
 
 // What a brought routing's lines are: the text's length, or refused by a row of the table at a place.
-#[derive(Drop)]
+#[derive(Clone, Copy)]
 pub enum Answer {
     Text(usize),
     Refused { number: u8, place: usize },

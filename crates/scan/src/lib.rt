@@ -1,6 +1,8 @@
 // One pass over a solver's reply ("A solver's reply" in document 01): its lines (`line`), its `s` line and the count of its literals (`tally`), and a mark for
 // each variable with the first position that row 7 refuses (`seen`). What is read so far is kept in locals of the one loop: a struct that goes through a call
 // at each byte would cost five times as much.
+#![tactic(auto)]
+
 ghost use Rattle.std.specs.Prelude.{◌≤◌};
 ghost use Rattle.channel.specs.Limits.{most_variables};
 ghost use Rattle.scan.specs.Marks.{Done};
@@ -13,7 +15,7 @@ use channel::MOST_VALUES;
 use line::Mode;
 
 // What a reply says: refused by row 6 at a place; or a status; with SATISFIABLE the number of literals before `0`.
-#[derive(Drop)]
+#[derive(Clone, Copy)]
 pub enum Answer {
     Refused(usize),
     Claimed,
@@ -22,7 +24,7 @@ pub enum Answer {
 }
 
 // What a reply says; with SATISFIABLE the first wrong position or 0, and the marks of its variables.
-#[derive(Drop)]
+#[derive(Clone, Copy)]
 pub struct Reading {
     pub answer: Answer,
     pub wrong: usize,

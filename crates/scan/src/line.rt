@@ -5,7 +5,7 @@ ghost use Rattle.dimacs.specs.Reply.{status_word};
 ghost use Rattle.scan.specs.Line.{start_mode, blank_mode, leading_mode, gap_mode, number_mode, step_mode, mode_literal, ended_literal, line_code, ModeAt, mode_code};
 
 // What was read of a line.
-#[derive(Drop)]
+#[derive(Clone, Copy)]
 pub enum Mode {
     // nothing
     Start,
@@ -111,7 +111,7 @@ pub fn step(m: Mode, b: u8, next: usize) -> Mode
 }
 
 // A literal of a `v` line, if one ends.
-#[derive(Drop)]
+#[derive(Clone, Copy)]
 pub enum Lit {
     Nothing,
     Stop,

@@ -16,7 +16,7 @@ use text::wide;
 
 // An answer: kind 0 is a refusal with its number, and its place as the value. Other kinds and their values are listed at each function.
 #[repr(C)]
-#[derive(Drop)]
+#[derive(Clone, Copy)]
 pub struct SilienvoAnswer {
     pub kind: u32,
     pub number: u32,
@@ -25,7 +25,7 @@ pub struct SilienvoAnswer {
 
 // What a job file is: kind 1 with N, T, M, K and where its connections stand; kind 0 is a refusal with its number and place.
 #[repr(C)]
-#[derive(Drop)]
+#[derive(Clone, Copy)]
 pub struct SilienvoJob {
     pub kind: u32,
     pub number: u32,

@@ -1,4 +1,6 @@
 // The panel's state as one lent array of bytes, and the walks over its loads: the columns of a span counted up or down where no other piece of a net is. Document 02, A2.
+#![tactic(auto)]
+
 ghost use Rattle.std.specs.Prelude.{◌≡◌, ◌&&◌, not, suc, ◌+◌, ◌-◌, ◌*◌, ◌≤◌, ◌<◌, ltb, eqb, length, get_or, set};
 ghost use Rattle.channel.specs.Limits.{most_columns, most_connections};
 ghost use Rattle.jobfile.specs.Rows.{connection_size};
@@ -19,7 +21,7 @@ const COLUMNS: usize = 256;
 pub const STATE: usize = LOADS + COLUMNS;
 
 // The columns from `from` up to, not including, `to`.
-#[derive(Drop)]
+#[derive(Clone, Copy)]
 pub struct Span {
     pub from: usize,
     pub to: usize,

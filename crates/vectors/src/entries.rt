@@ -11,7 +11,7 @@ use text::wide;
 pub const NONE: u8 = 255;
 
 // An answer: kind 0 is a refusal with its number and its place as the value; other kinds are counted from 1 in the order of the entry's answers.
-#[derive(Drop)]
+#[derive(Clone, Copy)]
 pub struct Given {
     pub kind: u8,
     pub number: u8,

@@ -45,7 +45,7 @@ fn agrees(r: &[u8]) -> bool {
     agrees_lent(r, &mut lent[..n])
 }
 
-#[derive(Drop)]
+#[derive(Clone, Copy)]
 struct Count {
     agree: usize,
     differ: usize,
