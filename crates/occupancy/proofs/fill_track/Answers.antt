@@ -1,0 +1,16 @@
+-- `fill_track`: the record's right ends rise to N (it is fine); `columns_of` and `fill` do the rest.
+use native.Mathlib.Omega.{arith}
+use Rattle.occupancy.proofs.fill_track.Goals as goal
+
+pub right_ends-requires : goal.right_ends-requires
+right_ends-requires c = omega (arith, c.requires.fine_at.0.room)
+
+pub columns_of-columns-requires : goal.columns_of-columns-requires
+columns_of-columns-requires c =
+    let r = c.requires.fine_at.0.rule in
+    rw (c.right_ends.ensures, c.trailer_of.ensures.n_is) (r.rises, r.few)
+
+pub fill-requires : goal.fill-requires
+fill-requires c =
+    let h = c.requires.fine_at.0.room in
+    record { facts = c.requires.facts; columns = rw (c.right_ends.ensures, c.trailer_of.ensures.n_is) at c.columns_of-columns.ensures; head_in_bounds = (omega arith, c.requires.fine_at.1, c.requires.fine_at.2) }
