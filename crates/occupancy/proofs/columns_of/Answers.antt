@@ -1,12 +1,11 @@
 use mathlib.Core.Path.{◌≡◌, refl, ap, ◌∙◌}
-use mathlib.Core.Logic.{⊎_elim}
 use Prim.Native.Nat.{ℕ, ◌+◌, ◌-◌, ◌≤◌, ◌<◌}
 use native.Mathlib.Omega.{arith}
 use lib.ListN.{get_or, set, length-set}
 use Rattle.occupancy.specs.Columns.{Over}
 use Rattle.occupancy.proofs.Intervals.{rising_some, over-same, over_next, columns_next}
 use Rattle.occupancy.proofs.columns_of.Goals as goal
-use Rattle.occupancy.proofs.columns_of.Goals.{In-loop-x}
+use Rattle.occupancy.proofs.columns_of.Goals.{In-loop-x, then-wide-x, else-wide-x}
 
 -- in a turn: column x lies in segment k
 over : (c : In-loop-x) → Over c.args.ends.now c.loop-x.x c.loop-x.k
@@ -30,10 +29,10 @@ loop-x-preserved c =
     let n = c.wide-most.ensures.0 in
     let more : (x : ℕ) → x < l.x + 1 → 1 ≤ x → Over es x (get_or (set l.columns l.x l.k) x 0) = columns_next es l.columns l.x l.k (omega (arith, c.wide-most.ensures.1)) g l.invariant.4 in
     let long = length-set l.columns l.x l.k ∙ l.invariant.2 in
-    ⊎_elim
-    (λ v. (omega arith, omega arith, long, (λ h. rw v.1 (over_next c.args.n es c.requires.rising l.x l.k (omega arith) g (omega (arith, v.0.taken)))), more))
-    (λ v. (omega arith, omega arith, long, (λ h. rw v.1 (over-same c.args.n es c.requires.rising l.x l.k g (omega (arith, v.0.left)))), more))
-    c.if-wide-x.branch
+    elim c.if-wide-x.branch [
+      then-wide-x v ↦ (omega arith, omega arith, long, (λ h. rw v.k-is (over_next c.args.n es c.requires.rising l.x l.k (omega arith) g (omega (arith, v.if-wide-x.true)))), more)
+      | else-wide-x v ↦ (omega arith, omega arith, long, (λ h. rw v.k-is (over-same c.args.n es c.requires.rising l.x l.k g (omega (arith, v.if-wide-x.false)))), more)
+    ]
 
 pub returns : goal.returns
 returns c =

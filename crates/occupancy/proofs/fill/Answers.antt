@@ -44,7 +44,7 @@ loop-i-preserved c =
     let l = c.loop-i in
     let f = c.args.f.now in
     let e = c.connection_of-k.ensures in
-    let cell = rw c.trailer_of-told.ensures.k_is at (c.cell-bounds.ensures (track_read f c.args.head) _ (record { c = n_of f; track = c.requires.columns; connection = c.requires.facts.connection l.i (inside (goal.at.loop-i-preserved c).In-loop-i); flag_is = refl; left_is = e.left_is; right_is = e.right_is; mark_is = e.mark_is })) in
+    let cell = rw c.trailer_of-told.ensures.k_is at (c.cell-bounds.ensures (track_read f c.args.head) _ (record { n = n_of f; track = c.requires.columns; connection = c.requires.facts.connection l.i (inside (goal.at.loop-i-preserved c).In-loop-i); flag_is = refl; left_is = e.left_is; right_is = e.right_is; mark_is = e.mark_is })) in
     let below = c.requires.head_in_bounds.1 in
     let room = rw c.cell_at-to.ensures.0 at c.cell_at-to.ensures.1 in
     let room : cell_at l.i c.args.code.0 + most_tracks < length l.runs = omega (arith, room) in

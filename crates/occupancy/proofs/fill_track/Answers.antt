@@ -8,7 +8,7 @@ right_ends-requires c = omega (arith, c.requires.fine_at.0.room)
 pub columns_of-columns-requires : goal.columns_of-columns-requires
 columns_of-columns-requires c =
     let r = c.requires.fine_at.0.rule in
-    rw (c.right_ends.ensures, c.trailer_of.ensures.n_is) (r.rises, r.few)
+    rw (c.right_ends.ensures, c.trailer_of.ensures.n_is) (record { rising = r.rises; ends_len_bound = r.few })
 
 pub fill-requires : goal.fill-requires
 fill-requires c =

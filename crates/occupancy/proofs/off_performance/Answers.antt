@@ -2,13 +2,12 @@
 use mathlib.Core.Path.{sym, ap, ◌∙◌}
 use mathlib.Core.Bool.{not}
 use lib.Dec.{eqb}
-use borrow.Author.Tests.{not-true, not-false}
 use Rattle.channel.specs.Channel.{critical_in}
 use Rattle.occupancy.proofs.Cells.{plain_off, critical_off}
 use Rattle.occupancy.proofs.off_performance.Goals as goal
 
 pub returns-then-not-is_critical : goal.returns-then-not-is_critical
-returns-then-not-is_critical c = λ t k p q. plain_off t k (ap critical_in (sym q) ∙ sym c.is_critical.ensures ∙ not-true _ c.if-not-is_critical.true)
+returns-then-not-is_critical c = λ t k p q. plain_off t k (ap critical_in (sym q) ∙ sym c.is_critical.ensures ∙ c.if-not-is_critical.true)
 
 pub returns : goal.returns
-returns c = λ t k p q. (λ i. not (eqb (p i) 1)) ∙ critical_off t k (ap critical_in (sym q) ∙ sym c.is_critical.ensures ∙ not-false _ c.if-not-is_critical.false)
+returns c = λ t k p q. (λ i. not (eqb (p i) 1)) ∙ critical_off t k (ap critical_in (sym q) ∙ sym c.is_critical.ensures ∙ c.if-not-is_critical.false)
