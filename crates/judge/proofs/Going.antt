@@ -6,7 +6,6 @@ use Prim.Native.Nat.{ℕ, ◌+◌, ◌≤◌, ◌<◌}
 use native.Mathlib.Omega.{arith}
 use lib.ListN.{length, get_or, take, replicate}
 use lib.Seq.{length-take-le}
-use borrow.Author.Tests.{not-true, not-false}
 use Rattle.facts.proofs.Bools.{never}
 use Rattle.refusals.specs.Table.{Searched, all_keep, one_breaks}
 use Rattle.channel.specs.Channel.{track_at, connection_at, T, M}
@@ -96,16 +95,16 @@ module _ {f q marks : List ℕ} {i : ℕ} (k : Asked f q marks i) where
       answer : r ≡ fits_run (owner_at (job_of f) i) marks (get_or q i 0) a e
       answer = told ∙ ap (λ (x : ℕ). fits_run x marks (get_or q i 0) a e) by
 
-      pub asked_shut : not r ≡ true → Searched (RoutingKept f q) (i + 1)
-      asked_shut s = breaks g k.inside (λ h. let y = sym (kept_fits (job_of f) q i k.inside h) ∙ sym test ∙ sym answer ∙ not-true r s in never cc)
+      pub asked_shut : r ≡ false → Searched (RoutingKept f q) (i + 1)
+      asked_shut s = breaks g k.inside (λ h. let y = sym (kept_fits (job_of f) q i k.inside h) ∙ sym test ∙ sym answer ∙ s in never cc)
 
-      fits : not r ≡ false → fits_run (owner_at (job_of f) i) marks (get_or q i 0) a e ≡ true
-      fits s = sym answer ∙ not-false r s
+      fits : r ≡ true → fits_run (owner_at (job_of f) i) marks (get_or q i 0) a e ≡ true
+      fits s = sym answer ∙ s
 
-      pub asked_open : not r ≡ false → a ≤ e
+      pub asked_open : r ≡ true → a ≤ e
       asked_open s = run_open (owner_at (job_of f) i) marks (get_or q i 0) a e (fits s)
 
-      pub asked_on : not r ≡ false → (next : List ℕ) → next ≡ taken_run o marks (get_or q i 0) a e → Going f q next (i + 1)
+      pub asked_on : r ≡ true → (next : List ℕ) → next ≡ taken_run o marks (get_or q i 0) a e → Going f q next (i + 1)
       unfolding routings_by
       asked_on s next n =
           record {

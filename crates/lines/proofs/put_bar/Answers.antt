@@ -1,0 +1,18 @@
+-- A bar is the forbidden code at the connection's variables, which are within the limit of V.
+use native.Mathlib.Omega.{arith}
+use Rattle.clauses.specs.Clauses.{bar}
+use Rattle.lines.proofs.Words.{last_variable}
+use Rattle.lines.proofs.put_bar.Goals as goal
+
+pub overflow_mul-i : goal.overflow_mul-i
+overflow_mul-i c = let z = last_variable c.args.i c.args.w c.requires.i_lt_most_connections c.requires.w_le_most_bits in omega arith
+
+pub overflow_add-i : goal.overflow_add-i
+overflow_add-i c = let z = last_variable c.args.i c.args.w c.requires.i_lt_most_connections c.requires.w_le_most_bits in omega arith
+
+pub put_literals-requires : goal.put_literals-requires
+put_literals-requires c = let z = last_variable c.args.i c.args.w c.requires.i_lt_most_connections c.requires.w_le_most_bits in omega arith
+
+pub returns : goal.returns
+unfolding bar
+returns c = c.put_literals.ensures
