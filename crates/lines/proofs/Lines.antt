@@ -22,8 +22,8 @@ above_zero n e = omega arith
 
 -- no clause is put down for a number behind the end
 pub past_within : {A : Type 0} (x : Place) → Ended x → Within x → A
-past_within (One i c) o h = absurd (omega arith)
-past_within (Two h i c) o g = absurd (omega arith)
+past_within (One i c) o h = let e = o.1 in cc
+past_within (Two h i c) o g = let e = o.1 in cc
 past_within (Past k) o h = absurd h
 
 module _ (runs : List ℕ) (t m n w top : ℕ) (s : Sized t w top) where

@@ -1,5 +1,5 @@
 -- The place with a number: the row in which it lies, and its code there; and what is told of a number, by the variant of the place. Assumes nothing.
-use mathlib.Core.Path.{◌≡◌, sym, ap, ◌∙◌, subst}
+use mathlib.Core.Path.{◌≡◌, refl, sym, ap, ◌∙◌, subst}
 use mathlib.Core.Logic.{⊎_elim}
 use mathlib.Core.Bool.{true}
 use mathlib.Core.List.{List, [], ◌∷◌, ◌++◌}
@@ -8,8 +8,6 @@ use native.Mathlib.Omega.{arith}
 use native.Mathlib.Decide.{dec_lt}
 use lib.ListN.{length, get_or, length-append}
 use lib.Seq.{get_or_at}
-use types.Run.{OneOf}
-use denote.Enum.Declared.{tag_of}
 use Rattle.channel.specs.Limits.{most_tracks, most_connections}
 use Rattle.clauses.specs.Clauses.{bits_for}
 use Rattle.places.specs.declared.Place.{Place}
@@ -19,7 +17,6 @@ use Rattle.places.specs.declared.Spot.{Spot}
 use Rattle.places.specs.Places.{place_at, places_of, places_before, Hit, FoundAt}
 use Rattle.places.specs.Table.{table_grid, forbidden_in, table_row, many_clauses}
 use Rattle.places.specs.Rows.{LiesIn, NthIn}
-use Rattle.places.specs.contracts.Place.{the_type}
 use Rattle.places.proofs.Sizes.{few_codes}
 use Rattle.places.proofs.Rows.{before_end, row_room_lem, places_few, place-split}
 
@@ -63,17 +60,17 @@ module _ (runs : List ℕ) (t m n : ℕ) (spot : Spot) (h : LiesIn (table_grid r
 
 -- a place, and no number behind the end: what a `match` that leaves out `Past` knows of it; and a number behind the end
 abbrev pub Here : Place → Type 0
-Here x = OneOf (0 ∷ 1 ∷ []) (tag_of the_type x)
+Here x = (k : ℕ) → x ≡ Past k → ⊥
 
 abbrev pub Ended : Place → Type 0
-Ended x = OneOf (2 ∷ []) (tag_of the_type x)
+Ended x = (k : ℕ) × (x ≡ Past k)
 
 pub here_hit : (l : List Place) (n : ℕ) (x : Place) → Here x → FoundAt l n x → Hit l n x
 here_hit l n (One i c) o g = g
 here_hit l n (Two h i c) o g = g
-here_hit l n (Past k) o g = absurd (⊎_elim (λ e. omega arith) (λ e. omega arith) o)
+here_hit l n (Past k) o g = absurd (o k refl)
 
 pub ended_short : (l : List Place) (n : ℕ) (x : Place) → Ended x → FoundAt l n x → length l ≤ n
-ended_short l n (One i c) o g = absurd (omega arith)
-ended_short l n (Two h i c) o g = absurd (omega arith)
+ended_short l n (One i c) o g = let e = o.1 in cc
+ended_short l n (Two h i c) o g = let e = o.1 in cc
 ended_short l n (Past k) o g = omega arith

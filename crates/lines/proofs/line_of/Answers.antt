@@ -7,22 +7,22 @@ use Rattle.lines.proofs.line_of.Goals as goal
 
 pub overflow_mul-m : goal.overflow_mul-m
 overflow_mul-m c =
-    let q = variables_few c.args.m c.size_of.result.w c.requires.m_le_most_connections c.size_of.ensures.few in
+    let q = variables_few c.args.m c.size_of-s.result.w c.requires.m_le_most_connections c.size_of-s.ensures.few in
     omega arith
 
 pub put_header-requires : goal.put_header-requires
 put_header-requires c =
-    let q = variables_few c.args.m c.size_of.result.w c.requires.m_le_most_connections c.size_of.ensures.few in
+    let q = variables_few c.args.m c.size_of-s.result.w c.requires.m_le_most_connections c.size_of-s.ensures.few in
     omega arith
 
 pub returns-then-n-eq0 : goal.returns-then-n-eq0
-returns-then-n-eq0 c = zeroth c.args.runs.now c.args.t c.args.m c.args.n c.size_of.result.w c.size_of.result.top c.size_of.ensures c.args.buf.now c.put_header.new.0 c.count-c.result c.put_header.result c.if-n-eq0.true c.count-c.ensures.0 c.put_header.ensures
+returns-then-n-eq0 c = zeroth c.args.runs.now c.args.t c.args.m c.args.n c.size_of-s.result.w c.size_of-s.result.top c.size_of-s.ensures c.args.buf.now c.put_header.new.buf c.count-c.result c.put_header.result c.if-n-eq0.true c.count-c.ensures.0 c.put_header.ensures
 
 pub returns-in-Past : goal.returns-in-Past
-returns-in-Past c = ((refl, refl), (above c.args.runs.now c.args.t c.args.m c.args.n c.size_of.result.w c.size_of.result.top c.size_of.ensures c.find-p.result c.if-n-eq0.false c.find-p.ensures c.in_default.keys1, refl))
+returns-in-Past c = ((refl, refl), (above c.args.runs.now c.args.t c.args.m c.args.n c.size_of-s.result.w c.size_of-s.result.top c.size_of-s.ensures c.find-p.result c.if-n-eq0.false c.find-p.ensures (c.in-Past.field-0, c.in-Past.is), refl))
 
 pub put_clause-requires : goal.put_clause-requires
-put_clause-requires c = record { most_line_in_bounds = omega arith; w_le_most_bits = c.size_of.ensures.few; within = found_within c.args.runs.now c.args.t c.args.m c.args.n c.size_of.result.w c.size_of.result.top c.size_of.ensures c.find-p.result c.if-n-eq0.false c.find-p.ensures c.requires.t_le_most_tracks c.requires.m_le_most_connections c.in_default.keys2 }
+put_clause-requires c = record { most_line_in_bounds = omega arith; w_le_most_bits = c.size_of-s.ensures.few; within = found_within c.args.runs.now c.args.t c.args.m c.args.n c.size_of-s.result.w c.size_of-s.result.top c.size_of-s.ensures c.find-p.result c.if-n-eq0.false c.find-p.ensures c.requires.t_le_most_tracks c.requires.m_le_most_connections c.in_default.not-Past }
 
 pub returns : goal.returns
-returns c = found c.args.runs.now c.args.t c.args.m c.args.n c.size_of.result.w c.size_of.result.top c.size_of.ensures c.find-p.result c.if-n-eq0.false c.find-p.ensures c.args.buf.now c.put_clause.new.0 c.put_clause.result c.in_default.keys2 c.put_clause.ensures
+returns c = found c.args.runs.now c.args.t c.args.m c.args.n c.size_of-s.result.w c.size_of-s.result.top c.size_of-s.ensures c.find-p.result c.if-n-eq0.false c.find-p.ensures c.args.buf.now c.put_clause.new.buf c.put_clause.result c.in_default.not-Past c.put_clause.ensures
