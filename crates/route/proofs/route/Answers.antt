@@ -7,8 +7,8 @@ use Rattle.route.proofs.route.Goals as goal
 use Rattle.route.proofs.route.Goals.{After-wide-m}
 
 -- what the answer Job says of the file
-read : (c : After-wide-m) → Told c.args.file.now c.tracks-1.given.0.0 c.tracks-1.given.0.1.0 c.tracks-1.given.0.1.1.0 c.tracks-1.given.0.1.1.1.0
-read c = told c.args.file.now _ _ _ _ (rw c.tracks-1.given.1 at c.read_job.ensures)
+read : (c : After-wide-m) → Told c.args.file.now c.in-Job.columns c.in-Job.tracks c.in-Job.connections c.in-Job.limit
+read c = told c.args.file.now _ _ _ _ (rw c.in-Job.is at c.read_job.ensures)
 
 pub returns-then-labels-m : goal.returns-then-labels-m
 returns-then-labels-m c =
@@ -21,10 +21,10 @@ decide-requires c =
     (r.facts, r.t_is, c.wide-m.ensures.0 ∙ r.m_is, c.if-labels-m.false)
 
 pub returns-in-Refused : goal.returns-in-Refused
-returns-in-Refused c = (refused_file _ _ _ _ (rw c.number-1.given.1 at c.read_job.ensures), refl)
+returns-in-Refused c = (refused_file _ _ _ _ (rw c.in-Refused.is at c.read_job.ensures), refl)
 
 pub returns-else-labels-m : goal.returns-else-labels-m
 returns-else-labels-m c =
     let r = read (goal.at.returns-else-labels-m c).After-wide-m in
     let a = c.args in
-    judged_answers a.file.now a.budget a.labels.now c.decide.new.1.1.0 c.decide.result r.facts r.file (omega (arith, c.wide-m.ensures.0, r.m_is, c.if-labels-m.false)) c.decide.ensures
+    judged_answers a.file.now a.budget a.labels.now c.decide.new.labels c.decide.result r.facts r.file (omega (arith, c.wide-m.ensures.0, r.m_is, c.if-labels-m.false)) c.decide.ensures
