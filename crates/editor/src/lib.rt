@@ -51,7 +51,8 @@ fn gather(connections: &[Connection]) -> [u8; BYTES]
     let mut a = [0u8; BYTES];
     let mut i = 0;
     while i < connections.len() {
-        a = put_connection(a, i, connections[i]);
+        let placed = put_connection(a, i, connections[i]);
+        a = placed;
         i += 1;
     }
     a

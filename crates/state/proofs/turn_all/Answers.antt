@@ -1,5 +1,5 @@
 use mathlib.Core.Path.{◌≡◌, subst}
-use Prim.Native.Nat.{ℕ, suc, ◌+◌, ◌-◌}
+use Prim.Native.Nat.{ℕ, suc, ◌+◌}
 use native.Mathlib.Omega.{arith}
 use lib.ListN.{set}
 use Rattle.state.specs.State.{loads_at}

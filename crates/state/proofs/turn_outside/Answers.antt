@@ -17,4 +17,4 @@ returns c h =
     let front = c.earlier in
     let back = c.later in
     let one = first.ensures h in
-    turned_outside a.state.now first.new.0 c.turn_span-2.new.0 a.m a.but a.mark a.span.from a.span.to a.out.from a.out.to front.result back.result (omega arith) (omega arith) front.ensures back.ensures one (c.turn_span-2.ensures (one.long ∙ h))
+    turned_outside a.state.now first.new.state c.turn_span-2.new.state a.m a.but a.mark a.span.from a.span.to a.out.from a.out.to front.result back.result (omega arith) (omega arith) front.ensures back.ensures one (c.turn_span-2.ensures (one.long ∙ h))

@@ -1,18 +1,15 @@
 use mathlib.Core.Path.{◌≡◌, sym, ap, subst, ◌∙◌}
 use mathlib.Core.Bool.{Bool, false, ◌&&◌}
-use mathlib.Core.Logic.{⊎_elim}
 use mathlib.Core.List.{List}
 use Prim.Native.Nat.{ℕ, suc, ◌+◌, ◌-◌}
 use native.Mathlib.Omega.{arith}
 use lib.Dec.{ltb}
 use borrow.Author.Tests.{lt-ltb, le-ltb}
-use Rattle.state.specs.Walks.{larger, in_span, furthest, Turned}
+use Rattle.state.specs.Walks.{larger, furthest, Turned}
 use Rattle.state.proofs.Walks.{span_is, span_behind, span_empty, span_next, furthest_more, turned_none, turned_stays, turned_more}
+use Rattle.state.proofs.turn_unreached.Invariants.{free}
+use Rattle.state.proofs.turn_unreached.Goals.{then-far-x, else-far-x}
 use Rattle.state.proofs.turn_unreached.Goals as goal
-
--- the columns from `from` up to x that no piece reaches
-abbrev free : List ℕ → ℕ → ℕ → ℕ → Bool
-free reach from x y = in_span from x y && ltb (furthest reach from (suc y - from)) y
 
 pub loop-x-init : goal.loop-x-init
 unfolding furthest
@@ -42,14 +39,14 @@ loop-x-preserved c =
       far ∙ ap (λ (n : ℕ). furthest reach a.from (n - a.from)) z,
       λ h.
           subst (λ (n : ℕ). Turned (free reach a.from n) a.falls a.state.now c.if-far-x.state) z
-          (⊎_elim
-          (λ w.
-          subst (λ (q : List ℕ). Turned (free reach a.from (suc x)) a.falls a.state.now q) (sym w.3)
-          (turned_more (l.invariant.3 h) (free reach a.from (suc x)) x (omega arith) new old (here _ (lt-ltb d.result x w.0.taken)) (omega arith) w.2.result w.2.ensures))
-          (λ w.
-          subst (λ (q : List ℕ). Turned (free reach a.from (suc x)) a.falls a.state.now q) (sym w.1)
-          (turned_stays (l.invariant.3 h) (free reach a.from (suc x)) x (omega arith) new old (here _ (le-ltb d.result x w.0.left))))
-          c.if-far-x.branch),
+          (elim c.if-far-x.branch [
+            | then-far-x w ↦
+                subst (λ (q : List ℕ). Turned (free reach a.from (suc x)) a.falls a.state.now q) (sym w.state-is)
+                (turned_more (l.invariant.3 h) (free reach a.from (suc x)) x (omega arith) new old (here _ (lt-ltb d.result x w.if-far-x.true)) (omega arith) w.turned.result w.turned.ensures)
+            | else-far-x w ↦
+                subst (λ (q : List ℕ). Turned (free reach a.from (suc x)) a.falls a.state.now q) (sym w.state-is)
+                (turned_stays (l.invariant.3 h) (free reach a.from (suc x)) x (omega arith) new old (here _ (le-ltb d.result x w.if-far-x.false)))
+          ]),
     )
 
 pub returns : goal.returns
