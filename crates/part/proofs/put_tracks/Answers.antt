@@ -40,7 +40,7 @@ loop-t-preserved c =
     let cut = c.requires.cut in
     let table : Table = table_of a.plain a.starts.now a.ends.now in
     let long = track_long table l.t (cut.within (l.t + 1) (omega arith)) in
-    let more = wrote_record table cut a.buf.now l.buf c.put_track-at.new.0 l.t l.at c.put_track-at.result c.flag_of.result c.flag_of.ensures l.invariant.3 c.put_track-at.ensures in
+    let more = wrote_record table cut a.buf.now l.buf c.put_track-at.new.buf l.t l.at c.put_track-at.result c.flag_of.result c.flag_of.ensures l.invariant.3 c.put_track-at.ensures in
     (omega arith, search rules, omega (arith, cut.rises l.t (omega arith), c.put_track-at.ensures.next), more)
 
 pub returns : goal.returns
