@@ -15,7 +15,7 @@ use Rattle.channel.specs.declared.Code.{Code}
 use Rattle.channel.specs.Channel.{Job, M}
 use Rattle.channel.specs.Routing.{Routing}
 use Rattle.clauses.specs.Clauses.{clauses, variable_count, width, codes, label_with, code_with, spelled, Model}
-use Rattle.clauses.specs.Reading.{labels, codes_in, labels_in}
+use Rattle.clauses.specs.Reading.{codes_in, labels_in}
 use Rattle.clauses.proofs.Bits.{code_at}
 use Rattle.clauses.proofs.Spelling.{codes-length, codes_at, code_at-number, spell-length}
 use Rattle.clauses.proofs.Models.{label_at, model_routing, model_spells, labels_of_spelled}

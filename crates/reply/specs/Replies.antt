@@ -24,7 +24,7 @@ pub record Spells (j : Job) (t q : List ℕ) : Type 0 where
   pub gives : GivesModel t literals
   pub values : (v : ℕ) → 1 ≤ v → v ≤ variable_count j → holds literals v ≡ value_in (spelled j q) v
 
--- the file is of a job, and the text is well_formed with this `s` line and no `v` line
+-- the file is of a job, and the text is well-formed with this `s` line and no `v` line
 abbrev pub Answers : List ℕ → List ℕ → Status → Type 0
 Answers f t s = ((j : Job) × FileOf f j) × Says t (s ∷ []) []
 
@@ -37,7 +37,7 @@ Replies f t l variant.Claimed l' = Passes (reply_call f (length l) t) × Answers
 Replies f t l variant.Unknown l' = Passes (reply_call f (length l) t) × Answers f t unknown × (l' ≡ l)
 Replies f t l (variant.Refused num place) l' = Refuses (reply_call f (length l) t) num place × (l' ≡ l)
 
--- the text is well_formed with `s SATISFIABLE`, and its literals are a model of the job's clauses
+-- the text is well-formed with `s SATISFIABLE`, and its literals are a model of the job's clauses
 pub record Modelled (j : Job) (t : List ℕ) : Type 0 where
   pub literals : List Literal
   pub gives : GivesModel t literals

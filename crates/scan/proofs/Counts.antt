@@ -101,7 +101,7 @@ codes_more (unknown ∷ []) s = refl
 codes_more (x ∷ y ∷ []) s = refl
 codes_more (x ∷ y ∷ z ∷ ss) s = refl
 
--- after a well_formed line
+-- after a well-formed line
 pub codes-line : (ss : List Status) (k : Line) → (k ≡ bad → ⊥) → said_after (codes ss) (line_code k) ≡ codes (ss ++ statuses (k ∷ []))
 unfolding line_code statuses
 codes-line ss bad n = absurd (n refl)

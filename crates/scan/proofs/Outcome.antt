@@ -21,7 +21,7 @@ pub outcome-none : (number : ℕ) (ss : List Status) (xs : List Word) → outcom
 unfolding outcome bad_first first_bad statuses literals
 outcome-none number ss xs = simp append-nil
 
--- a well_formed line was read
+-- a well-formed line was read
 pub outcome_next : (number : ℕ) (ss : List Status) (xs : List Word) (k : Line) (ks : List Line) → (k ≡ bad → ⊥) → outcome number ss xs (k ∷ ks) ≡ outcome (number + 1) (ss ++ statuses (k ∷ [])) (xs ++ literals (k ∷ [])) ks
 unfolding outcome first_bad statuses literals
 outcome_next number ss xs bad ks n = absurd (n refl)

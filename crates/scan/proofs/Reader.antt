@@ -89,7 +89,7 @@ pub start_right : (t : List ℕ) → Right t [] Start 1 0 (tally 0 0) 0
 unfolding codes shut_number before_nought
 start_right t = record { ss = []; saids = refl; notes = refl; one_line = omega arith; few = omega arith; small = omega arith; inside = tt; decides = ends_start t }
 
--- a line that comes to 0 is not well_formed
+-- a line that comes to 0 is not well-formed
 code_bad : (k : Line) → line_code k ≡ 0 → k ≡ bad
 unfolding line_code
 code_bad bad h = refl

@@ -69,7 +69,7 @@ status_number satisfiable = 1
 status_number unsatisfiable = 2
 status_number unknown = 3
 
--- what a line comes to: 0 for not well_formed, the number of its status for an `s` line, 4 for any other
+-- what a line comes to: 0 for not well-formed, the number of its status for an `s` line, 4 for any other
 unfoldable pub line_code : Line → ℕ
 line_code bad = 0
 line_code quiet = 4

@@ -49,7 +49,7 @@ by_said said t =
     (cond (eqb said 3) (alone_as Unknown t)
     (Refused 0)))
 
--- a line not well_formed, by its number, decides before the others
+-- a line not well-formed, by its number, decides before the others
 unfoldable pub answer_by : ℕ → ℕ → ℕ → Tally → Answer
 answer_by code number said t = cond (eqb code 0) (Refused number) (by_said said t)
 

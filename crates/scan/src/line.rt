@@ -146,13 +146,13 @@ pub fn event(m: Mode, b: u8) -> Lit
 fn status(w: &[u8]) -> u8
     ensures { result ≡ line_code (status_word w.now) }
 {
-    if check::same(w, b"SATISFIABLE") {
+    if w == b"SATISFIABLE".as_slice() {
         return 1;
     }
-    if check::same(w, b"UNSATISFIABLE") {
+    if w == b"UNSATISFIABLE".as_slice() {
         return 2;
     }
-    if check::same(w, b"UNKNOWN") {
+    if w == b"UNKNOWN".as_slice() {
         return 3;
     }
     0

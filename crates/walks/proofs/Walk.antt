@@ -3,10 +3,10 @@ use mathlib.Core.List.{List, [], ◌∷◌}
 use seplogic.Ra.Ura.{Ura}
 use mir.Syntax.{Fn}
 use mir.Val.{Val}
-use base.Logic.{SProp, ent, sep, ex, id⊢}
+use base.Logic.{ent, sep, ex, id⊢}
 use base.Fml.{Fml}
 use prog.Model.{Model}
-use prog.Routine.{Name, Env}
+use prog.Routine.{Callee, Env}
 use prog.Wp.{WpFn, Closed}
 use types.Logic.{Logic, sem}
 use contract.Lifetimes.{Lfts, Shares, AllOutlive}
@@ -43,7 +43,7 @@ module _ {M : Type 1} {𝓤 : Ura M} {𝓛 : Logic 𝓤} {K : Type 0} {Γ : List
       → Seq K 𝓛 (raw (H.⇛ (ex 𝓤 (λ (r : R.Denot). sep 𝓤 (sep 𝓤 (mean 𝓛 tokens) (sem 𝓛 (R.own_val r (u ∷ [])))) (ex 𝓤 (λ (ws : L). sep 𝓤 (sem 𝓛 (last ws)) (fact 𝓤 (Says r))))))) ∷ Γ) G
   told t z tokens R u last Says k = told_last t z tokens R u last (λ r ws. Says r) (λ r ws e is. move t (2 ∷ []) $ drop t $ k r e is)
 
-module _ {M : Type 1} {𝓤 : Ura M} (𝓛 : Logic 𝓤) (𝓜 : Model 𝓤 𝓛.H) (𝓡 : Running 𝓤 𝓛.H 𝓜) (T : Ended) (hs : Stays T.signature.params T.kept) (c : Clauses 𝓤 T) (γ : Env) (k : Name) (e : Fn) where
+module _ {M : Type 1} {𝓤 : Ura M} (𝓛 : Logic 𝓤) (𝓜 : Model 𝓤 𝓛.H) (𝓡 : Running 𝓤 𝓛.H 𝓜) (T : Ended) (hs : Stays T.signature.params T.kept) (c : Clauses 𝓤 T) (γ : Env) (k : Callee) (e : Fn) where
   -- a walk from the parameters' machine values, written out, is the contract of the function's entry
   open 𝓛 use {H}
 

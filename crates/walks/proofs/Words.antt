@@ -9,12 +9,13 @@ pub use prog.Memory.{Memory}
 pub use prog.Routine.{Routine}
 pub use prog.Wp.{Heap, Calls, Loops, WpFn, Out, Env, after_seq, after_block, Wp, at_return, Tables}
 unfoldable pub use prog.Wp.{after_turn}
-pub use ghost.Atoms.{Atoms, sem}
+pub use ghost.Atoms.{Atoms}
+pub use types.Logic.{sem}
 pub use contract.Monad.{Fun}
-pub use contract.Running.{given_of, tables}
+pub use contract.Running.{tables}
 unfoldable pub use contract.Running.{tables_of}
 pub use contract.Lifetimes.{Lfts}
-pub use types.Kit.{Given, ‵, raw, ◌⊛◌, ◌$◌, ◌∵◌, !, qed, by, move, use1, split, fsplit, fjoin, suffices, frame, given, ⋆, drop, use2, learn, done, join, Item, any_q, at_ret, keep, rewrite, feq_l}
+pub use types.Kit.{‵, raw, ◌⊛◌, ◌$◌, ◌∵◌, !, qed, by, move, use1, split, fsplit, fjoin, suffices, frame, given, ⋆, drop, use2, learn, done, join, Item, any_q, at_ret, keep, rewrite, feq_l}
 pub use types.Part.{agg, whole, sub, look_in, rep}
 pub use types.Run.{look, init, forget, stop, from, load, lit, and_then, no_more, assigns, returns, enter, alloc1, alloc0, params1, pass1, pass0, free1, free0, fld, of_opd, land, look_raw, store, hop, bin, assigns_last, stays, leaves_loop, exec, addr}
 pub use sound.WpLaws.{FmC, fm_of}
