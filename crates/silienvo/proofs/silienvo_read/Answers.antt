@@ -4,15 +4,13 @@ use mathlib.Core.List.{List}
 use Prim.Native.Nat.{ℕ}
 use native.Mathlib.Omega.{arith}
 use lib.ListN.{length}
-use borrow.Author.Rules.{rules}
 use Rattle.jobfile.specs.declared.Read.{Read}
 use Rattle.jobfile.specs.declared.Read.TheVariants as read
 use Rattle.jobfile.specs.Reads.{Reads, Stand}
 use Rattle.jobfile.proofs.Exact.{job-room, connections_stand}
 use Rattle.silienvo.specs.Exports.{job_given}
 use Rattle.silienvo.specs.Fits.{ReadFits}
-use Rattle.silienvo.proofs.silienvo_read.Statement.{statement}
-use Rattle.silienvo.proofs.silienvo_read.Tie as tie
+use Rattle.silienvo.proofs.silienvo_read.Goals as goal
 
 reads_fit : (f : List ℕ) (r : Read) → Reads f r → ReadFits (length f) r
 reads_fit f (read.Job c t m k) h = job-room f c t m k h
@@ -23,13 +21,10 @@ job_stands : (f : List ℕ) (r : Read) → Reads f r → (job_given (length f) r
 job_stands f (read.Job c t m k) h e = connections_stand f c t m k h
 job_stands f (read.Refused num place) h e = absurd (omega arith)
 
-job-given-requires : tie.Need-job-given-requires
-job-given-requires c κs = reads_fit c.before.before.args.file.now c.read-job.result c.read-job.ensures
+pub job_given-requires : goal.job_given-requires
+job_given-requires c = reads_fit c.args.file.now c.read_job.result c.read_job.ensures
 
-returns : tie.Need-returns
+pub returns : goal.returns
 returns c =
-    let r = c.before.read-job in
-    record { answer = r.result; says = r.ensures; is = c.job-given.ensures; stand = rw c.job-given.ensures (job_stands _ r.result r.ensures) }
-
-pub silienvo-read-spec : {M : Type 1} → statement M
-silienvo-read-spec = tie.close (tie.spec (λ c κs. search rules) job-given-requires returns)
+    let r = c.read_job in
+    record { answer = r.result; says = r.ensures; is = c.job_given.ensures; stand = rw c.job_given.ensures (job_stands _ r.result r.ensures) }
