@@ -1,5 +1,5 @@
 -- A reply has one answer: rows 6, 7 and 8 each hold at one place at most, so any two answers that `Means` allows are equal; and a reply is
--- accepted exactly if it is well_formed with `s SATISFIABLE` and its literals are a model. Assumes nothing.
+-- accepted exactly if it is well-formed with `s SATISFIABLE` and its literals are a model. Assumes nothing.
 use mathlib.Core.Path.{◌≡◌, refl, sym, ap, subst, ◌∙◌}
 use mathlib.Core.List.{List, [], ◌∷◌}
 use mathlib.Core.Logic.{inl, inr}
@@ -78,7 +78,7 @@ module _ (n : ℕ) (cs : List Clause) (t : List ℕ) where
   pub means_is : {a : Reply} → Means n cs t a → reply_of n cs t ≡ a
   means_is m = means_one (reply_means n cs t) m
 
--- an accepted reply is well_formed with `s SATISFIABLE`, and its literals are a model
+-- an accepted reply is well-formed with `s SATISFIABLE`, and its literals are a model
 pub accepted_model : (n : ℕ) (cs : List Clause) (t : List ℕ) (xs : List Literal) → reply_of n cs t ≡ Accepted xs → GivesModel t xs × IsModel n cs xs × (length xs ≡ n)
 accepted_model n cs t xs e = go (subst (Means n cs t) e (reply_means n cs t))
   where

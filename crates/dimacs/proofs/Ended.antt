@@ -1,4 +1,4 @@
--- A line that is not well_formed decides from its LF on: a beginning that holds it is refused at it, as the whole is. Assumes nothing.
+-- A line that is not well-formed decides from its LF on: a beginning that holds it is refused at it, as the whole is. Assumes nothing.
 use mathlib.Core.Path.{◌≡◌, refl, sym, ap, subst, ◌∙◌}
 use mathlib.Core.Bool.{Bool, true, false, cond}
 use mathlib.Core.List.{List, [], ◌∷◌, map}

@@ -1,4 +1,4 @@
--- Each of the three searches of a reply (the first line not well_formed, the first wrong position, the first false clause) brings the first that
+-- Each of the three searches of a reply (the first line not well-formed, the first wrong position, the first false clause) brings the first that
 -- breaks its rule. One shape: a list is searched from its front, and what is searched for moves up one place. Assumes nothing.
 use mathlib.Core.Path.{◌≡◌, refl, sym, subst, ◌∙◌}
 use mathlib.Core.Bool.{Bool, true, false, cond, ◌&&◌, ◌||◌}
@@ -48,7 +48,7 @@ bad_from k (quiet ∷ ks) = later (λ e. never cc) (λ i h. h) (λ i h. h) (bad_
 bad_from k (says s ∷ ks) = later (λ e. never cc) (λ i h. h) (λ i h. h) (bad_from (suc k) ks)
 bad_from k (gives xs ∷ ks) = later (λ e. never cc) (λ i h. h) (λ i h. h) (bad_from (suc k) ks)
 
--- the first line not well_formed
+-- the first line not well-formed
 pub bad_searched : (ks : List Line) → Searched (λ i. get_or ks i quiet ≡ bad → ⊥) (first_bad 1 ks)
 bad_searched ks = searched (bad_from 1 ks)
 

@@ -5,7 +5,7 @@ use Rattle.dimacs.specs.Clause.{Literal, Clause, makes}
 use Rattle.dimacs.specs.Reply.{Word, Status, satisfiable, unsatisfiable, unknown, Line, bad, quiet, says, gives, lines, line_of, statuses, literals, closed}
 use Rattle.dimacs.specs.Model.{before_nought, among, variables, holds, Reply, Refused, Accepted, Claimed, Unknown}
 
--- the first line not well_formed, counted from i, or 0
+-- the first line not well-formed, counted from i, or 0
 unfoldable pub first_bad : ℕ → List Line → ℕ
 first_bad i [] = 0
 first_bad i (bad ∷ ks) = i
@@ -30,7 +30,7 @@ settle (unknown ∷ []) [] = Unsure
 settle (unknown ∷ []) (x ∷ xs) = Refused6 0
 settle (s ∷ s' ∷ ss) xs = Refused6 0
 
--- a line not well_formed decides before the other rules
+-- a line not well-formed decides before the other rules
 unfoldable pub bad_first : ℕ → Parsed → Parsed
 bad_first zero a = a
 bad_first (suc n) a = Refused6 (suc n)

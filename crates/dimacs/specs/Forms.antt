@@ -14,7 +14,7 @@ unfoldable pub spaced : List (List ℕ) → List ℕ
 spaced [] = []
 spaced (w ∷ ws) = 32 ∷ w ++ spaced ws
 
--- a well_formed line is empty; or `c` alone, or begins with `c` and a blank; or is `s` and one of three words;
+-- a well-formed line is empty; or `c` alone, or begins with `c` and a blank; or is `s` and one of three words;
 -- or is `v` followed by one or more times a blank and a literal
 pub data IsLine : List ℕ → Line → Type 0 where
   empty : IsLine [] quiet

@@ -10,7 +10,7 @@ use Rattle.dimacs.specs.Model.{among, variables, holds, Reply, Refused, Accepted
 abbrev pub lines_in : List ℕ → List Line
 lines_in t = map line_of (lines t)
 
--- line i, counted from 0, is well_formed; behind the last there is none that is not
+-- line i, counted from 0, is well-formed; behind the last there is none that is not
 abbrev pub WellFormed : List ℕ → ℕ → Type 0
 WellFormed t i = get_or (lines_in t) i quiet ≡ bad → ⊥
 
@@ -18,17 +18,17 @@ WellFormed t i = get_or (lines_in t) i quiet ≡ bad → ⊥
 abbrev pub Keeps : List Status → List Word → Type 0
 Keeps ss ws = ((ss ≡ satisfiable ∷ []) × ((xs : List Literal) × (ws ≡ map lit xs ++ (stop ∷ [])))) ⊎ (((ss ≡ unsatisfiable ∷ []) ⊎ (ss ≡ unknown ∷ [])) × (ws ≡ []))
 
--- 6: a line not well_formed, at the first such line; or the `s`, `v` and `0` rules broken, at 0 if all are well_formed
+-- 6: a line not well-formed, at the first such line; or the `s`, `v` and `0` rules broken, at 0 if all are well-formed
 abbrev pub row6 : List ℕ → Rows
 row6 t = row 6 (λ p. FirstBroken (WellFormed t) p ⊎ nowhere (((i : ℕ) → WellFormed t i) × (Keeps (statuses (lines_in t)) (literals (lines_in t)) → ⊥)) p)
 
--- the text is well_formed with these `s` lines and these words
+-- the text is well-formed with these `s` lines and these words
 pub record Says (t : List ℕ) (ss : List Status) (ws : List Word) : Type 0 where
   pub well_formed : (i : ℕ) → WellFormed t i
   pub status_lines : statuses (lines_in t) ≡ ss
   pub value_words : literals (lines_in t) ≡ ws
 
--- the text is well_formed with `s SATISFIABLE`, and these are the literals before `0`
+-- the text is well-formed with `s SATISFIABLE`, and these are the literals before `0`
 abbrev pub GivesModel : List ℕ → List Literal → Type 0
 GivesModel t xs = Says t (satisfiable ∷ []) (map lit xs ++ (stop ∷ []))
 

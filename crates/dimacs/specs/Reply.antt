@@ -87,7 +87,7 @@ text satisfiable = 83 ∷ 65 ∷ 84 ∷ 73 ∷ 83 ∷ 70 ∷ 73 ∷ 65 ∷ 66 �
 text unsatisfiable = 85 ∷ 78 ∷ 83 ∷ 65 ∷ 84 ∷ 73 ∷ 83 ∷ 70 ∷ 73 ∷ 65 ∷ 66 ∷ 76 ∷ 69 ∷ []
 text unknown = 85 ∷ 78 ∷ 75 ∷ 78 ∷ 79 ∷ 87 ∷ 78 ∷ []
 
--- what a line is: not well_formed; empty or a `c` line; an `s` line; a `v` line
+-- what a line is: not well-formed; empty or a `c` line; an `s` line; a `v` line
 pub data Line : Type 0 where
   bad : Line
   quiet : Line
