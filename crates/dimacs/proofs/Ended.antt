@@ -1,12 +1,12 @@
 -- A line that is not well-formed decides from its LF on: a beginning that holds it is refused at it, as the whole is. Assumes nothing.
-use mathlib.Core.Path.{◌≡◌, refl, sym, ap, subst, ◌∙◌}
+use mathlib.Core.Path.{◌≡◌, sym, ap, subst, ◌∙◌}
 use mathlib.Core.Bool.{Bool, true, false, cond}
 use mathlib.Core.List.{List, [], ◌∷◌, map}
 use Prim.Native.Nat.{ℕ, zero, suc, ◌+◌, ◌≤◌, ◌<◌}
 use native.Mathlib.Omega.{arith}
 use lib.ListN.{length, length-map, take, drop, take-append-drop}
 use Rattle.dimacs.specs.Reply.{Word, Status, satisfiable, unsatisfiable, unknown, Line, bad, quiet, says, gives, split, line_of, statuses, literals, closed, Ended}
-use Rattle.dimacs.specs.Decision.{first_bad, Parsed, Refused6, Sat, settle, bad_first, judged, answer_of}
+use Rattle.dimacs.specs.Decision.{first_bad, Refused6, Sat, settle, bad_first, judged, answer_of}
 use Rattle.dimacs.proofs.Cut.{Along, last, more, Grows, map_along, line_grows, split_along, answer_split}
 
 -- counted from i + 1, the first bad line is at i + 1 or behind it

@@ -5,14 +5,13 @@ use mathlib.Core.Bool.{Bool, true, false, cond}
 use mathlib.Core.List.{List, []}
 use mathlib.Core.Logic.{◌⊎◌, inl, inr}
 use Prim.Native.Nat.{ℕ, suc}
-use native.Mathlib.Omega.{arith}
 use lib.Dec.{eqb}
 use lib.ListN.{take}
 use Rattle.facts.proofs.Bools.{never}
 use Rattle.dimacs.specs.Clause.{Clause}
 use Rattle.dimacs.specs.Decision.{first_false, Parsed, Refused6, Sat, Unsat, Unsure, answer_of, accepts, place7, checked, replied, reply_of}
 use Rattle.dimacs.specs.Reply.{Ended}
-use Rattle.dimacs.specs.Model.{Reply, Refused, Accepted, Claimed, Unknown, before_nought, variables, holds}
+use Rattle.dimacs.specs.Model.{Refused, Accepted, before_nought, variables, holds}
 use Rattle.dimacs.proofs.Cut.{Refuses, refuses_or, cut, empty_refused}
 use Rattle.dimacs.proofs.Ended.{bad_line}
 

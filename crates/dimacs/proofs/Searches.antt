@@ -1,6 +1,6 @@
 -- Each of the three searches of a reply (the first line not well-formed, the first wrong position, the first false clause) brings the first that
 -- breaks its rule. One shape: a list is searched from its front, and what is searched for moves up one place. Assumes nothing.
-use mathlib.Core.Path.{◌≡◌, refl, sym, subst, ◌∙◌}
+use mathlib.Core.Path.{◌≡◌, refl, sym, subst}
 use mathlib.Core.Bool.{Bool, true, false, cond, ◌&&◌, ◌||◌}
 use mathlib.Core.List.{List, [], ◌∷◌}
 use Prim.Native.Nat.{ℕ, zero, suc, ◌+◌, ◌≤◌, ◌<◌}

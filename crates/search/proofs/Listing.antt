@@ -1,6 +1,6 @@
 -- What counting counts: `seqs w n` holds each sequence of n labels of 1 to w exactly once, and nothing else. A count over a fan is a sum over its first
 -- labels, of which one at most is that of the sequence asked for. Assumes nothing.
-use mathlib.Core.Path.{◌≡◌, refl, sym, ap, ◌∙◌}
+use mathlib.Core.Path.{◌≡◌, refl, ap, ◌∙◌}
 use mathlib.Core.Bool.{Bool, true, false, ◌&&◌, cond}
 use mathlib.Core.List.{List, [], ◌∷◌}
 use mathlib.Core.Logic.{◌⊎◌, inl, inr, ⊎_elim}

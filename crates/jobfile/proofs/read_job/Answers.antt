@@ -40,35 +40,35 @@ wrong : (k : After-bad_connection-wrong) → let f = k.args.f.now in Searched (C
 wrong k = rw (k.trailer_of-told.ensures.n_is, k.connections_at-start.ensures, (k.wide-count.ensures.0 ∙ k.trailer_of-told.ensures.m_is)) at k.bad_connection-wrong.ensures
 
 pub returns-then-f-lt-TRAILER : goal.returns-then-f-lt-TRAILER
-returns-then-f-lt-TRAILER c =     let f = c.args.f.now in
+returns-then-f-lt-TRAILER c = let f = c.args.f.now in
     subst (Reads f) (sym c.refused.ensures) (answer_1 f c.if-f-lt-TRAILER.true)
 
 pub returns-then-not-within_limits : goal.returns-then-not-within_limits
-returns-then-not-within_limits c =     let f = c.args.f.now in
+returns-then-not-within_limits c = let f = c.args.f.now in
     subst (Reads f) (sym c.refused-then-not-within_limits.ensures) (answer_2 f (long (goal.at.returns-then-not-within_limits c).After-wide-count) (told_no _ c.within_limits.result (limits (goal.at.returns-then-not-within_limits c).After-within_limits) c.if-not-within_limits.true))
 
 pub returns-then-not-is_placed : goal.returns-then-not-is_placed
-returns-then-not-is_placed c =     let f = c.args.f.now in
+returns-then-not-is_placed c = let f = c.args.f.now in
     subst (Reads f) (sym c.refused-then-not-is_placed.ensures) (answer_3 f (long (goal.at.returns-then-not-is_placed c).After-wide-count) (limited (goal.at.returns-then-not-is_placed c).Else-not-within_limits) (told_no _ c.is_placed.result (places (goal.at.returns-then-not-is_placed c).After-is_placed) c.if-not-is_placed.true))
 
 pub connections_at-start-requires : goal.connections_at-start-requires
 connections_at-start-requires c = let p = placed (goal.at.connections_at-start-requires c).Else-not-is_placed in omega (arith, long (goal.at.connections_at-start-requires c).After-wide-count, p.tracks, p.connections, p.order)
 
 pub bad_track-bad-requires : goal.bad_track-bad-requires
-bad_track-bad-requires c =     omega (arith, (limited (goal.at.bad_track-bad-requires c).Else-not-within_limits).t_high, c.wide.ensures.0, c.trailer_of-told.ensures.t_is, c.connections_at-start.ensures)
+bad_track-bad-requires c = omega (arith, (limited (goal.at.bad_track-bad-requires c).Else-not-within_limits).t_high, c.wide.ensures.0, c.trailer_of-told.ensures.t_is, c.connections_at-start.ensures)
 
 pub returns-then-bad-ne0 : goal.returns-then-bad-ne0
-returns-then-bad-ne0 c =     subst (Reads (c.args.f.now)) (sym c.refused-then-bad-ne0.ensures) (answer_4 (c.args.f.now) (long (goal.at.returns-then-bad-ne0 c).After-wide-count) (limited (goal.at.returns-then-bad-ne0 c).Else-not-within_limits) (placed (goal.at.returns-then-bad-ne0 c).Else-not-is_placed) c.bad_track-bad.result (tracks (goal.at.returns-then-bad-ne0 c).After-bad_track-bad) c.if-bad-ne0.true)
+returns-then-bad-ne0 c = subst (Reads (c.args.f.now)) (sym c.refused-then-bad-ne0.ensures) (answer_4 (c.args.f.now) (long (goal.at.returns-then-bad-ne0 c).After-wide-count) (limited (goal.at.returns-then-bad-ne0 c).Else-not-within_limits) (placed (goal.at.returns-then-bad-ne0 c).Else-not-is_placed) c.bad_track-bad.result (tracks (goal.at.returns-then-bad-ne0 c).After-bad_track-bad) c.if-bad-ne0.true)
 
 pub bad_connection-wrong-requires : goal.bad_connection-wrong-requires
-bad_connection-wrong-requires c =     let p = placed (goal.at.bad_connection-wrong-requires c).Else-not-is_placed in
+bad_connection-wrong-requires c = let p = placed (goal.at.bad_connection-wrong-requires c).Else-not-is_placed in
     omega (arith, c.connections_at-start.ensures, p.tracks, p.connections, p.order, count (goal.at.bad_connection-wrong-requires c).After-wide-count, long (goal.at.bad_connection-wrong-requires c).After-wide-count)
 
 pub returns-then-wrong-ne0 : goal.returns-then-wrong-ne0
-returns-then-wrong-ne0 c =     subst (Reads (c.args.f.now)) (sym c.refused-then-wrong-ne0.ensures)
+returns-then-wrong-ne0 c = subst (Reads (c.args.f.now)) (sym c.refused-then-wrong-ne0.ensures)
     (answer_5 (c.args.f.now) (long (goal.at.returns-then-wrong-ne0 c).After-wide-count) (limited (goal.at.returns-then-wrong-ne0 c).Else-not-within_limits) (placed (goal.at.returns-then-wrong-ne0 c).Else-not-is_placed) c.bad_track-bad.result (tracks (goal.at.returns-then-wrong-ne0 c).After-bad_track-bad) c.if-bad-ne0.false c.bad_connection-wrong.result (wrong (goal.at.returns-then-wrong-ne0 c).After-bad_connection-wrong) c.if-wrong-ne0.true)
 
 pub returns : goal.returns
-returns c =     let t = c.trailer_of-told.ensures in
+returns c = let t = c.trailer_of-told.ensures in
     rw (t.n_is, t.t_is, t.m_is, t.k_is)
     (answer_job (c.args.f.now) (long (goal.at.returns c).After-wide-count) (limited (goal.at.returns c).Else-not-within_limits) (placed (goal.at.returns c).Else-not-is_placed) c.bad_track-bad.result (tracks (goal.at.returns c).After-bad_track-bad) c.if-bad-ne0.false c.bad_connection-wrong.result (wrong (goal.at.returns c).After-bad_connection-wrong) (λ i. omega (arith, c.shared_slice_known-1.given i)) c.if-wrong-ne0.false)

@@ -5,5 +5,5 @@ use lib.ListN.{get_or}
 use Rattle.jobfile.proofs.right_ends.Goals as goal
 
 pub returns : goal.returns
-returns c =     let a = c.args in
+returns c = let a = c.args in
     rw (c.record_end-end.ensures, add-sub_cancel_left (a.at + 2) (get_or a.f.now a.at 0))

@@ -1,5 +1,5 @@
 use mathlib.Core.Path.{◌≡◌, refl, ◌∙◌}
-use Prim.Native.Nat.{◌-◌, ◌<◌}
+use Prim.Native.Nat.{◌<◌}
 use native.Mathlib.Omega.{arith}
 use lib.ListN.{length-set, get_or-replicate}
 use Rattle.channel.specs.Limits.{most_tracks}
@@ -30,15 +30,15 @@ pub bounds-offsets-u : goal.bounds-offsets-u
 bounds-offsets-u c = few (goal.at.bounds-offsets-u c).In-loop-u
 
 pub record_end-at-requires : goal.record_end-at-requires
-record_end-at-requires c =     omega (arith, record_within (c.args.f.now) c.requires c.loop-u.u c.loop-u.at (inside (goal.at.record_end-at-requires c).In-loop-u) c.loop-u.invariant.2)
+record_end-at-requires c = omega (arith, record_within (c.args.f.now) c.requires c.loop-u.u c.loop-u.at (inside (goal.at.record_end-at-requires c).In-loop-u) c.loop-u.invariant.2)
 
 pub loop-u-preserved : goal.loop-u-preserved
-loop-u-preserved c =     let l = c.loop-u in
+loop-u-preserved c = let l = c.loop-u in
     let f = c.args.f.now in
     let k = few (goal.at.loop-u-preserved c).In-loop-u in
     (omega arith, length-set l.offsets l.u l.at ∙ l.invariant.1, c.record_end-at.ensures ∙ start_next f l.u l.at l.invariant.2, offsets_next f l.offsets l.u l.at (omega arith) l.invariant.2 l.invariant.3, offsets_rest l.offsets l.u l.at l.invariant.4)
 
 pub returns : goal.returns
-returns c =     let l = c.loop-u in
+returns c = let l = c.loop-u in
     let n = count (goal.at.returns c).After-wide-t in
     record { long = l.invariant.1; at = λ u h. l.invariant.3 u (omega arith); rest = λ u h k. l.invariant.4 u (omega arith) k }

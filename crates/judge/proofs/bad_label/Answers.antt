@@ -1,4 +1,3 @@
-use Prim.Native.Nat.{◌-◌}
 use lib.ListN.{get_or}
 use Rattle.channel.specs.Channel.{track_at, connection_at}
 use Rattle.jobfile.specs.Rows.{k_of, job_of}

@@ -1,8 +1,7 @@
 -- The reader's refusals are the judge's; past them the labels are counted and walked, and each way out is one of the laws by_file, by_length, by_label, by_legal. Assumes nothing.
-use mathlib.Core.Path.{◌≡◌, sym, subst, ◌∙◌}
+use mathlib.Core.Path.{◌≡◌, sym, ◌∙◌}
 use Rattle.refusals.proofs.Laws.{searched_all, searched_broken}
 use Rattle.jobfile.specs.Rows.{m_of}
-use Rattle.jobfile.specs.Reads.{Reads}
 use Rattle.jobfile.proofs.Exact.{Told, told}
 use Rattle.judge.proofs.Laws.{by_file, by_length, by_label, by_legal}
 use Rattle.judge.proofs.judge.Goals as goal

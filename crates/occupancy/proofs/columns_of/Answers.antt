@@ -1,5 +1,5 @@
 use mathlib.Core.Path.{◌≡◌, refl, ap, ◌∙◌}
-use Prim.Native.Nat.{ℕ, ◌+◌, ◌-◌, ◌≤◌, ◌<◌}
+use Prim.Native.Nat.{ℕ, ◌+◌, ◌≤◌, ◌<◌}
 use native.Mathlib.Omega.{arith}
 use lib.ListN.{get_or, set, length-set}
 use Rattle.occupancy.specs.Columns.{Over}
@@ -30,7 +30,7 @@ loop-x-preserved c =
     let more : (x : ℕ) → x < l.x + 1 → 1 ≤ x → Over es x (get_or (set l.columns l.x l.k) x 0) = columns_next es l.columns l.x l.k (omega (arith, c.wide-most.ensures.1)) g l.invariant.4 in
     let long = length-set l.columns l.x l.k ∙ l.invariant.2 in
     elim c.if-wide-x.branch [
-      then-wide-x v ↦ (omega arith, omega arith, long, (λ h. rw v.k-is (over_next c.args.n es c.requires.rising l.x l.k (omega arith) g (omega (arith, v.if-wide-x.true)))), more)
+      | then-wide-x v ↦ (omega arith, omega arith, long, (λ h. rw v.k-is (over_next c.args.n es c.requires.rising l.x l.k (omega arith) g (omega (arith, v.if-wide-x.true)))), more)
       | else-wide-x v ↦ (omega arith, omega arith, long, (λ h. rw v.k-is (over-same c.args.n es c.requires.rising l.x l.k g (omega (arith, v.if-wide-x.false)))), more)
     ]
 

@@ -1,6 +1,6 @@
 use mathlib.Core.Path.{◌≡◌, sym, ◌∙◌}
 use mathlib.Core.Bool.{true, false}
-use Prim.Native.Nat.{◌+◌, ◌-◌}
+use Prim.Native.Nat.{◌+◌}
 use native.Mathlib.Omega.{arith}
 use lib.ListN.{length}
 use Rattle.places.specs.Table.{table_row}
@@ -29,7 +29,7 @@ loop-row-preserved c =
     let next = count_next a.runs.now a.t a.row l.c in
     let e = c.is_forbidden.ensures in let i = l.invariant.1 in
     let n : length (table_row a.runs.now a.t a.row (l.c + 1)) + c.if-is_forbidden.k ≡ a.n = elim c.if-is_forbidden.branch [
-      then-is_forbidden+else-k-eq0 w ↦ let z = w.k-is in let o = w.if-k-eq0.false in let n = next true (sym e ∙ w.if-is_forbidden.true) in omega arith
+      | then-is_forbidden+else-k-eq0 w ↦ let z = w.k-is in let o = w.if-k-eq0.false in let n = next true (sym e ∙ w.if-is_forbidden.true) in omega arith
       | else-is_forbidden w ↦ let z = w.k-is in let n = next false (sym e ∙ w.if-is_forbidden.false) in omega arith
     ] in
     (row_inside a.runs.now a.t a.row (l.c + 1) c.if-is_forbidden.k a.n (omega arith) n c.requires.n_in_bounds, n)

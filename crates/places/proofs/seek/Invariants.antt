@@ -1,6 +1,6 @@
 -- Passed so far are all rows before `row`: with what is left they make n.
 use mathlib.Core.Path.{◌≡◌}
-use Prim.Native.Nat.{◌+◌, ◌-◌}
+use Prim.Native.Nat.{◌+◌}
 use lib.ListN.{length}
 use Rattle.places.specs.Places.{places_before}
 use Rattle.places.specs.Table.{table_grid}

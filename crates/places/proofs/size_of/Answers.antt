@@ -1,4 +1,3 @@
-use Prim.Native.Nat.{◌-◌}
 use native.Mathlib.Omega.{arith}
 use Rattle.places.proofs.Sizes.{low_start, low_next, low_done}
 use Rattle.places.proofs.size_of.Goals as goal

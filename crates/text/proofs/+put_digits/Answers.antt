@@ -1,4 +1,3 @@
-use Rattle.std.proofs.Common.{rules}
 use Rattle.text.proofs.Writing.{then, digits-zero, digits-small, digits_more}
 use Rattle.text.proofs.+put_digits.Goals as goal
 
