@@ -9,7 +9,7 @@ use native.Mathlib.Omega.{arith}
 use lib.Dec.{leb}
 use lib.ListN.{set}
 use borrow.Author.Tests.{le-leb, lt-leb, leb-true, leb-false}
-use Rattle.facts.proofs.Bools.{leb_same, never}
+use Rattle.facts.proofs.Bools.{never}
 use Rattle.search.specs.Sequences.{Space}
 use Rattle.search.specs.Tree.{Res, found, dead, plus, graft, branch, tries, place}
 use Rattle.route.specs.declared.Step.{Step}

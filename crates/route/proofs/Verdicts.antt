@@ -8,7 +8,6 @@ use native.Mathlib.Numerals.{add-one}
 use native.Mathlib.Omega.{arith}
 use lib.ListN.{length, get_or, set, take, drop, take-append-drop}
 use lib.Seq.{take-suc, set_at, length-take-le}
-use Rattle.facts.proofs.Bools.{never}
 use Rattle.search.specs.Tree.{Res, found, dead, place, Settled}
 use Rattle.search.specs.Budget.{first, none, undecided}
 use Rattle.search.proofs.Settling.{settled}
@@ -18,7 +17,7 @@ use Rattle.channel.specs.Routing.{routings}
 use Rattle.channel.proofs.Budget.{to_decides}
 use Rattle.route.specs.declared.Step.TheVariants.{Found, Dead, Spent}
 use Rattle.route.specs.declared.Verdict.TheVariants.{Routed, Unroutable, Undecided}
-use Rattle.route.specs.Cut.{over, written, CutTo}
+use Rattle.route.specs.Cut.{over, CutTo}
 use Rattle.route.specs.Routes.{Judged}
 use Rattle.route.proofs.Cut.{size, found_is, dead_is, spent_is}
 

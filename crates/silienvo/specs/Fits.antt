@@ -3,12 +3,6 @@ use Rattle.std.specs.Prelude.{ℕ, ◌+◌, ◌*◌, ◌≤◌}
 use Rattle.jobfile.specs.declared.Read.{Read}
 use Rattle.jobfile.specs.declared.Read.TheVariants as read
 use Rattle.jobfile.specs.Rows.{trailer_size, connection_size}
-use Rattle.route.specs.declared.Verdict.TheVariants as verdict
-use Rattle.judge.specs.declared.Judgement.TheVariants as judgement
-use Rattle.rows.specs.declared.Answer.TheVariants as rows
-use Rattle.lines.specs.declared.Answer.TheVariants as line
-use Rattle.part.specs.declared.Written.TheVariants as written
-use Rattle.reply.specs.declared.Answer.TheVariants as reply
 
 -- a job's connections stand before the trailer
 abbrev pub ReadFits : ℕ → Read → Type 0

@@ -1,5 +1,7 @@
 // The exports for C: each public entry on numbers and slices, with an answer of plain numbers. include/silienvo.h says the same in plain words.
 // A slice passes as a pointer and a length. No function has a precondition.
+#![tactic(auto)]
+
 ghost use Rattle.std.specs.Prelude.{◌≡◌};
 ghost use Rattle.loads.specs.Edits.{clear, add, drop, move};
 ghost use Rattle.panel.specs.Does.{Becomes};

@@ -1,7 +1,6 @@
 -- `editor::route_panel` meets its contract: a panel of another shape is refused, and the bytes of the list are those of its records (proofs/Panels.antt).
-use mathlib.Core.Path.{refl}
 use native.Mathlib.Omega.{arith}
-use Rattle.facts.proofs.Tells.{told_yes, told_no}
+use Rattle.facts.proofs.Tells.{told_yes}
 use Rattle.state.specs.State.{n_in, t_in}
 use Rattle.part.specs.P1.{p1}
 use Rattle.editor.specs.Panels.{OfPart}

@@ -66,27 +66,27 @@ try_tracks_from-loop-t-preserved t c =
     let lt = c.loop-t-test.true in
     let nz = c.if-left-eq0.false in
     elim c.if-fits.branch [
-      try_tracks_from-then-fits+in-Dead w ↦
-        let p = placed a.runs.now a.tracks a.m a.i a.marks l.t _ a.labels.now l.labels _ _ _ l.invariant.same w.take.ensures w.place_connection.ensures in
-        let d = rw w.in-Dead.is at p in
-        let kept = dead_keeps _ _ _ _ _ _ d in
-        rw (w.labels-is, w.left-is)
-        (record {
-          same = kept.0;
-          long = ap length kept.0;
-          within = omega arith;
-          paid = omega (arith, l.invariant.paid);
-          rest = λ r x y. l.invariant.rest r x (tries_missed _ _ _ _ _ _ _ _ _ _ _ _ lt (fitted a.runs.now a.tracks a.m a.i a.marks l.t c.fits.ensures w.if-fits.true) nz d (rw kept.0 y));
-        })
+      | try_tracks_from-then-fits+in-Dead w ↦
+          let p = placed a.runs.now a.tracks a.m a.i a.marks l.t _ a.labels.now l.labels _ _ _ l.invariant.same w.take.ensures w.place_connection.ensures in
+          let d = rw w.in-Dead.is at p in
+          let kept = dead_keeps _ _ _ _ _ _ d in
+          rw (w.labels-is, w.left-is)
+          (record {
+            same = kept.0;
+            long = ap length kept.0;
+            within = omega arith;
+            paid = omega (arith, l.invariant.paid);
+            rest = λ r x y. l.invariant.rest r x (tries_missed _ _ _ _ _ _ _ _ _ _ _ _ lt (fitted a.runs.now a.tracks a.m a.i a.marks l.t c.fits.ensures w.if-fits.true) nz d (rw kept.0 y));
+          })
       | try_tracks_from-else-fits w ↦
-        rw (w.labels-is, w.left-is)
-        (record {
-          same = l.invariant.same;
-          long = l.invariant.long;
-          within = omega arith;
-          paid = omega (arith, l.invariant.paid);
-          rest = λ r x y. l.invariant.rest r x (tries-passed _ _ _ _ _ _ _ _ _ _ lt (sym c.fits.ensures ∙ w.if-fits.false) nz y);
-        })
+          rw (w.labels-is, w.left-is)
+          (record {
+            same = l.invariant.same;
+            long = l.invariant.long;
+            within = omega arith;
+            paid = omega (arith, l.invariant.paid);
+            rest = λ r x y. l.invariant.rest r x (tries-passed _ _ _ _ _ _ _ _ _ _ lt (sym c.fits.ensures ∙ w.if-fits.false) nz y);
+          })
     ]
 
 pub try_tracks_from-returns : goal.try_tracks_from-returns

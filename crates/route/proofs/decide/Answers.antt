@@ -1,7 +1,6 @@
 -- `route::decide`: the search by marks is the search through the legal partial routings, and what the budget leaves of it is the verdict. Assumes nothing.
 use mathlib.Core.Path.{◌≡◌, subst, ◌∙◌}
 use mathlib.Core.List.{[]}
-use Prim.Native.Nat.{◌-◌}
 use native.Mathlib.Nat.{sub-zero}
 use native.Mathlib.Omega.{arith}
 use lib.ListN.{replicate}

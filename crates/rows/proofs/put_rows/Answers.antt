@@ -1,4 +1,3 @@
-use Prim.Native.Nat.{◌-◌}
 use native.Mathlib.Omega.{arith}
 use Rattle.rows.proofs.Going.{going_first, going_last, going_room, going_low, going_high, going_connection, going_on}
 use Rattle.rows.proofs.put_rows.Goals as goal
