@@ -1,5 +1,4 @@
--- What is written is the part of the text that the report has: it fits there. No status of a report is above that of a refusal, so each is a digit.
--- Assumes nothing.
+-- No status of a report is above that of a refusal, so each is a digit. Assumes nothing.
 use native.Mathlib.Omega.{arith}
 use Rattle.report.proofs.Status.{status_most}
 use Rattle.router.proofs.run.Goals as goal
