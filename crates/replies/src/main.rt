@@ -1,12 +1,15 @@
 // Recorded replies of real solvers against their jobs: the answer to each, whole and cut at every byte. Document 01, "Clause lines" and "A solver's reply".
 // The arguments are pairs of a job file and a reply file.
-ghost use Rattle.std.specs.Prelude.{◌≡◌, ◌+◌, ◌<◌, ◌^◌, length};
-ghost use Rattle.io.specs.Counts.{IsPrefixLen};
+#![tactic(auto)]
+
+ghost use Rattle.std.specs.Prelude.{◌≡◌, ◌+◌, ◌≤◌, ◌<◌, ◌^◌, length};
 
 use channel::MOST_CONNECTIONS;
-use libc::STDOUT_FILENO;
 use lines::MOST_LINE;
 use reply::Answer;
+use std::fs::File;
+use std::io::Read;
+use std::{env, io};
 
 // Room for a job file and for a reply. What fills its room may be longer, and is not held.
 const JOB: usize = 4096;
@@ -27,43 +30,42 @@ struct Tally {
     other: u64,
 }
 
-fn say(text: &[u8]) {
-    io::write_all(STDOUT_FILENO, text);
+fn say(rt: &HostRuntime, text: &[u8]) {
+    let _ = rt.write_all(text);
 }
 
 // A blank and a number.
-fn say_number(n: u64) {
-    say(b" ");
-    io::print_decimal(STDOUT_FILENO, n);
+fn say_number(rt: &HostRuntime, n: u64) {
+    let _ = print!(rt; " {n}");
 }
 
-fn say_refused(number: u8, place: usize) {
-    say(b"refused");
-    say_number(number as u64);
-    say_number(place as u64);
-    say(b"\n");
+fn say_refused(rt: &HostRuntime, number: u8, place: usize) {
+    say(rt, b"refused");
+    say_number(rt, number as u64);
+    say_number(rt, place as u64);
+    say(rt, b"\n");
 }
 
 // Line n of the job's export; whether there is one.
-fn say_line(job: &[u8], n: usize) -> bool {
+fn say_line(rt: &HostRuntime, job: &[u8], n: usize) -> bool {
     let mut line = [0u8; MOST_LINE];
     match lines::line(job, n, &mut line) {
         lines::Answer::Line(length) => {
-            say(&line[..length]);
+            say(rt, &line[..length]);
             true
         }
         lines::Answer::Refused { number, place } => {
-            say_refused(number, place);
+            say_refused(rt, number, place);
             false
         }
     }
 }
 
 // The first lines of the job's export, and the refusal behind the last where that is among them.
-fn say_lines(job: &[u8]) {
+fn say_lines(rt: &HostRuntime, job: &[u8]) {
     let mut n = 0;
     while n < LINES {
-        if !say_line(job, n) {
+        if !say_line(rt, job, n) {
             return;
         }
         n += 1;
@@ -71,42 +73,42 @@ fn say_lines(job: &[u8]) {
 }
 
 // The labels that were written.
-fn say_labels(labels: &[u8; MOST_CONNECTIONS]) {
+fn say_labels(rt: &HostRuntime, labels: &[u8; MOST_CONNECTIONS]) {
     let mut i = 0;
     while i < MOST_CONNECTIONS {
         if labels[i] != 0 {
-            say_number(text::wide(labels[i]) as u64);
+            say_number(rt, text::wide(labels[i]) as u64);
         }
         i += 1;
     }
 }
 
-fn say_answer(answer: Answer, labels: &[u8; MOST_CONNECTIONS]) {
+fn say_answer(rt: &HostRuntime, answer: Answer, labels: &[u8; MOST_CONNECTIONS]) {
     match answer {
-        Answer::Accepted => say(b"accepted"),
-        Answer::Claimed => say(b"claimed"),
-        Answer::Unknown => say(b"unknown"),
+        Answer::Accepted => say(rt, b"accepted"),
+        Answer::Claimed => say(rt, b"claimed"),
+        Answer::Unknown => say(rt, b"unknown"),
         Answer::Refused { number, place } => {
-            say_refused(number, place);
+            say_refused(rt, number, place);
             return;
         }
     }
-    say_labels(labels);
-    say(b"\n");
+    say_labels(rt, labels);
+    say(rt, b"\n");
 }
 
-fn say_tally(t: Tally)
+fn say_tally(rt: &HostRuntime, t: Tally)
     requires { t.refused + t.same + t.other < 2 ^ 64 }
 {
-    say(b"cuts");
-    say_number(t.refused + t.same + t.other);
-    say(b":");
-    say_number(t.refused);
-    say(b" refused,");
-    say_number(t.same);
-    say(b" same,");
-    say_number(t.other);
-    say(b" other\n");
+    say(rt, b"cuts");
+    say_number(rt, t.refused + t.same + t.other);
+    say(rt, b":");
+    say_number(rt, t.refused);
+    say(rt, b" refused,");
+    say_number(rt, t.same);
+    say(rt, b" same,");
+    say_number(rt, t.other);
+    say(rt, b" other\n");
 }
 
 // A number for each answer; 0 for a refusal.
@@ -128,14 +130,14 @@ fn beside(job: &[u8], cut: &[u8], whole: u8, labels: &[u8; MOST_CONNECTIONS]) ->
 {
     let mut lent = LENT;
     let said = kind(reply::reply(job, cut, &mut lent));
-    if said == 0 && check::same(&lent, &LENT) {
+    if said == 0 && lent == LENT {
         return Tally {
             refused: 1,
             same: 0,
             other: 0,
         };
     }
-    if said == whole && check::same(&lent, labels) {
+    if said == whole && lent == *labels {
         return Tally {
             refused: 0,
             same: 1,
@@ -173,53 +175,67 @@ fn cuts(job: &[u8], text: &[u8], whole: u8, labels: &[u8; MOST_CONNECTIONS]) -> 
 }
 
 // A job and a reply.
-fn hold(job: &[u8], text: &[u8])
+fn hold(rt: &HostRuntime, job: &[u8], text: &[u8])
     requires { length text.now < 2 ^ 32 }
 {
-    say_lines(job);
+    say_lines(rt, job);
     let mut labels = LENT;
     let answer = reply::reply(job, text, &mut labels);
-    say_answer(answer, &labels);
-    say_tally(cuts(job, text, kind(answer), &labels));
+    say_answer(rt, answer, &labels);
+    say_tally(rt, cuts(job, text, kind(answer), &labels));
 }
 
-// Says the name of the file that argument i names and reads it; how many bytes it has.
-fn read(i: usize, into: &mut [u8]) -> usize
-    ensures { IsPrefixLen result into.new }
+// Reads until the buffer is full, the file ends or a read fails; how many bytes were read.
+fn read_full(file: &mut File, buf: &mut [u8]) -> usize
+    ensures { result ≤ length buf.new }
 {
-    let mut path = io::buffer();
-    let length = os::arg(i, &mut path);
-    say(&path[..length]);
-    let file = os::open_read(&path[..length]);
-    if file < 0 {
-        os::fail(&path[..length]);
-        return 0;
+    let mut done: usize = 0;
+    while done < buf.len() {
+        match file.read(&mut buf[done..]) {
+            Ok(0) | Err(_) => return done,
+            Ok(n) => done += n,
+        }
     }
-    let count = io::read_full(file, into);
-    libc::close(file);
-    count
+    done
 }
 
-// The job and the reply that two arguments name.
-fn pair(first: usize, second: usize) {
+// Says the name of the file and reads it; how many bytes it has.
+fn read(rt: &HostRuntime, path: &str, into: &mut [u8]) -> usize
+    ensures { result ≤ length into.new }
+{
+    say(rt, path.as_bytes());
+    match File::open(rt, path) {
+        Ok(mut file) => read_full(&mut file, into),
+        Err(e) => {
+            let _ = eprintln!(rt; "{path}: {e}");
+            0
+        }
+    }
+}
+
+// A job and its reply, by their names.
+fn pair(rt: &HostRuntime, first: &str, second: &str) {
     let mut job = [0u8; JOB];
     let mut text = [0u8; REPLY];
-    let j = read(first, &mut job);
-    say(b" ");
-    let t = read(second, &mut text);
-    say(b"\n");
+    let j = read(rt, first, &mut job);
+    say(rt, b" ");
+    let t = read(rt, second, &mut text);
+    say(rt, b"\n");
     if j == JOB || t == REPLY {
-        say(b"too long\n");
+        say(rt, b"too long\n");
         return;
     }
-    hold(&job[..j], &text[..t]);
+    hold(rt, &job[..j], &text[..t]);
 }
 
-fn main() {
-    let pairs = os::arg_count() / 2;
-    let mut i: usize = 0;
-    while i < pairs {
-        pair(2 * i + 1, 2 * i + 2);
-        i += 1;
+// A job that no reply follows has one with no name.
+fn main(rt: HostRuntime) -> io::Result<()> {
+    let mut words = env::args(&rt)?.skip(1);
+    while let Some(first) = words.next() {
+        match words.next() {
+            Some(second) => pair(&rt, first.as_str(), second.as_str()),
+            None => pair(&rt, first.as_str(), ""),
+        }
     }
+    Ok(())
 }

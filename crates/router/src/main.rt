@@ -1,18 +1,25 @@
 // The routing program: reads a job from standard input and writes what `report` makes of it, and loses no error. Only reading and writing are here.
 // Document 01, "Numbers to hold against it". One byte more than the longest input is read, so that a longer one is known for it.
-// The kit can give no exit status. So the wrapper `./route` starts the program with an argument, reads the status as one digit from a descriptor
-// that it opened for it, and ends with that; no digit is status 4.
-ghost use Rattle.std.specs.Prelude.{◌≤◌};
-ghost use Rattle.io.specs.Counts.{IsPrefixLen};
+// The program itself ends with 0. So the wrapper `./route` starts it with an argument, reads the status as one digit from a descriptor that it
+// opened for it, and ends with that; no digit is status 4.
+#![tactic(auto)]
 
-use libc::{STDERR_FILENO, STDIN_FILENO, STDOUT_FILENO};
+ghost use Rattle.std.specs.Prelude.{◌≤◌, length};
+
 use report::{MOST_INPUT, TEXT};
+use std::env::FillError;
+use std::fs::{File, OpenOptions};
+use std::io::{Read, Stdin, Write};
+use std::rt::Env;
+use std::{fs, io};
 
 // The status of a run that could not read its input or write its text; the others are the report's.
 const FAILED: u8 = 4;
 
-// The descriptor on which the status is told.
-const STATUS: i32 = 3;
+// Standard output and the descriptor on which the status is told, as paths: std takes no descriptor by its number.
+const OUTPUT: &str = "/proc/self/fd/1";
+
+const STATUS: &str = "/proc/self/fd/3";
 
 // What was read: how many bytes, and whether a read failed.
 #[derive(Clone, Copy)]
@@ -22,23 +29,28 @@ struct Got {
 }
 
 // One read into the front of the buffer. One that fails reads nothing.
-fn read_some(fd: i32, buf: &mut [u8]) -> Got
-    ensures { IsPrefixLen result.length buf.new }
+fn read_some(mut from: Stdin, buf: &mut [u8]) -> Got
+    ensures { result.length ≤ length buf.new }
 {
-    let got = libc::read(fd, buf);
-    Got {
-        length: io::count(got, buf),
-        failed: got < 0,
+    match from.read(buf) {
+        Ok(length) => Got {
+            length,
+            failed: false,
+        },
+        Err(_) => Got {
+            length: 0,
+            failed: true,
+        },
     }
 }
 
 // Reads until the buffer is full, the input ends or a read fails. Each turn that goes on has read a byte at least, so the loop ends.
-fn read_input(fd: i32, buf: &mut [u8]) -> Got
-    ensures { IsPrefixLen result.length buf.new }
+fn read_input(from: Stdin, buf: &mut [u8]) -> Got
+    ensures { result.length ≤ length buf.new }
 {
     let mut done: usize = 0;
     while done < buf.len() {
-        let got = read_some(fd, &mut buf[done..]);
+        let got = read_some(from, &mut buf[done..]);
         if got.length == 0 {
             return Got {
                 length: done,
@@ -53,50 +65,83 @@ fn read_input(fd: i32, buf: &mut [u8]) -> Got
     }
 }
 
-// Writes all of the text to standard output and closes it, since an error may show only then. True only if neither failed.
-fn write_text(text: &[u8]) -> bool {
-    if !io::write_all(STDOUT_FILENO, text) {
+// Whether standard output is a file.
+fn writes_file(rt: &HostRuntime) -> bool {
+    match fs::metadata(rt, OUTPUT) {
+        Ok(about) => about.is_file(),
+        Err(_) => false,
+    }
+}
+
+// Whether the file that standard output is keeps its bytes. One that may not be opened again has no more to say.
+fn keeps(rt: &HostRuntime) -> bool {
+    match File::open(rt, OUTPUT) {
+        Ok(file) => file.sync_data().is_ok(),
+        Err(_) => true,
+    }
+}
+
+// Writes all of the text to standard output, and has a file keep it, since an error may show only then. True only if neither failed.
+fn write_text(rt: &HostRuntime, text: &[u8]) -> bool {
+    if rt.write_all(text).is_err() {
         return false;
     }
-    libc::close(STDOUT_FILENO) == 0
+    if !writes_file(rt) {
+        return true;
+    }
+    keeps(rt)
 }
 
 // Says on standard error what failed; the status is that of a failure.
-fn fail(what: &[u8]) -> u8
+fn fail(rt: &HostRuntime, what: &[u8]) -> u8
     ensures { result ≤ 4 }
 {
-    io::write_all(STDERR_FILENO, what);
+    let _ = Print::write_all(&rt.stderr(), what);
     FAILED
 }
 
 // Reads, reports and writes. The status is the report's, if nothing failed.
-fn run() -> u8
+fn run(rt: &HostRuntime) -> u8
     ensures { result ≤ 4 }
 {
     let mut input = [0u8; MOST_INPUT + 1];
-    let got = read_input(STDIN_FILENO, &mut input);
+    let got = read_input(rt.stdin(), &mut input);
     if got.failed {
-        return fail(b"route: standard input could not be read\n");
+        return fail(rt, b"route: standard input could not be read\n");
     }
     let read = got.length;
     let mut text = [0u8; TEXT];
     let said = report::report(&input[..read], &mut text);
     let length = said.length;
-    if !write_text(&text[..length]) {
-        return fail(b"route: standard output could not be written whole\n");
+    if !write_text(rt, &text[..length]) {
+        return fail(rt, b"route: standard output could not be written whole\n");
     }
     said.status
 }
 
+// Whether the program was started with an argument.
+fn is_asked(rt: &HostRuntime) -> bool {
+    let mut word = [0u8; 1];
+    !matches!(&rt.arg(1, &mut word), Err(FillError::NotPresent))
+}
+
+// Writes the digit to the descriptor.
+fn tell_digit(rt: &HostRuntime, digit: u8) -> io::Result<()> {
+    OpenOptions::new()
+        .write(true)
+        .open(rt, STATUS)?
+        .write_all(&[digit])
+}
+
 // Tells the status, as a digit. Only where the program was started with an argument: so it never writes to a descriptor that somebody else opened.
-fn tell(status: u8)
+fn tell(rt: &HostRuntime, status: u8)
     requires { status ≤ 4 }
 {
-    if 1 < os::arg_count() {
-        io::write_all(STATUS, &[b'0' + status]);
+    if is_asked(rt) {
+        let _ = tell_digit(rt, b'0' + status);
     }
 }
 
-fn main() {
-    tell(run());
+fn main(rt: HostRuntime) {
+    tell(&rt, run(&rt));
 }

@@ -1,11 +1,17 @@
 // Replays vectors that the second router made, in the files that arguments name, and prints how many agree and how many differ.
 // Answer, number, place or value, and every byte of the lent buffer are compared. tests/README.md says how the files are made.
+#![tactic(auto)]
+
+ghost use Rattle.std.specs.Prelude.{◌≤◌, length};
+
 mod entries;
 mod panels;
 mod record;
 
-use libc::STDOUT_FILENO;
 use record::{ROOM, after, before, byte, four};
+use std::fs::File;
+use std::io::Read;
+use std::{env, io};
 
 // Whether the answer is the record's.
 fn says(r: &[u8], given: entries::Given) -> bool {
@@ -25,9 +31,9 @@ fn agrees_lent(r: &[u8], lent: &mut [u8]) -> bool {
         return false;
     }
     if byte(r, 0) == 1 {
-        return check::same(jobfile::connections(record::first(r)), after(r));
+        return jobfile::connections(record::first(r)) == after(r);
     }
-    check::same(lent, after(r))
+    *lent == *after(r)
 }
 
 // Whether the library does what the record says. Bytes that are no record never agree.
@@ -68,36 +74,42 @@ fn replay(bytes: &[u8]) -> Count {
     Count { agree, differ }
 }
 
-fn print(name: &[u8], count: Count) {
-    io::write_all(STDOUT_FILENO, name);
-    io::write_all(STDOUT_FILENO, b" ");
-    io::print_decimal(STDOUT_FILENO, count.agree as u64);
-    io::write_all(STDOUT_FILENO, b" agree, ");
-    io::print_decimal(STDOUT_FILENO, count.differ as u64);
-    io::write_all(STDOUT_FILENO, b" differ\n");
+fn print(rt: &HostRuntime, name: &str, count: Count) {
+    let _ = println!(rt; "{name} {} agree, {} differ", count.agree, count.differ);
+}
+
+// Reads until the buffer is full, the file ends or a read fails; how many bytes were read.
+fn read_full(file: &mut File, buf: &mut [u8]) -> usize
+    ensures { result ≤ length buf.new }
+{
+    let mut done: usize = 0;
+    while done < buf.len() {
+        match file.read(&mut buf[done..]) {
+            Ok(0) | Err(_) => return done,
+            Ok(n) => done += n,
+        }
+    }
+    done
 }
 
 // One file.
-fn one(i: usize) {
-    let mut path = io::buffer();
-    let length = os::arg(i, &mut path);
-    let file = os::open_read(&path[..length]);
-    if file < 0 {
-        os::fail(&path[..length]);
-        return;
-    }
-    let mut bytes = io::large_buffer();
-    let read = io::read_full(file, &mut bytes);
-    libc::close(file);
+fn one(rt: &HostRuntime, path: &str) {
+    let mut file = match File::open(rt, path) {
+        Ok(file) => file,
+        Err(e) => {
+            let _ = eprintln!(rt; "{path}: {e}");
+            return;
+        }
+    };
+    let mut bytes = [0u8; 65536];
+    let read = read_full(&mut file, &mut bytes);
     let count = replay(&bytes[..read]);
-    print(&path[..length], count);
+    print(rt, path, count);
 }
 
-fn main() {
-    let count = os::arg_count();
-    let mut i: usize = 1;
-    while i < count {
-        one(i);
-        i += 1;
+fn main(rt: HostRuntime) -> io::Result<()> {
+    for path in env::args(&rt)?.skip(1) {
+        one(&rt, path.as_str());
     }
+    Ok(())
 }
