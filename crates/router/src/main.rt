@@ -4,7 +4,7 @@
 // opened for it, and ends with that; no digit is status 4.
 #![tactic(auto)]
 
-ghost use Rattle.std.specs.Prelude.{◌≤◌, length};
+ghost use Rattle.std.specs.Prelude.{◌≡◌, ◌≤◌, length, take};
 
 use report::{MOST_INPUT, TEXT};
 use std::env::FillError;
@@ -30,7 +30,7 @@ struct Got {
 
 // One read into the front of the buffer. One that fails reads nothing.
 fn read_some(mut from: Stdin, buf: &mut [u8]) -> Got
-    ensures { result.length ≤ length buf.new }
+    ensures { (result.length ≤ length buf.new) × (result.length ≡ length (take result.length buf.new)) }
 {
     match from.read(buf) {
         Ok(length) => Got {
@@ -46,7 +46,7 @@ fn read_some(mut from: Stdin, buf: &mut [u8]) -> Got
 
 // Reads until the buffer is full, the input ends or a read fails. Each turn that goes on has read a byte at least, so the loop ends.
 fn read_input(from: Stdin, buf: &mut [u8]) -> Got
-    ensures { result.length ≤ length buf.new }
+    ensures { (result.length ≤ length buf.new) × (result.length ≡ length (take result.length buf.new)) }
 {
     let mut done: usize = 0;
     while done < buf.len() {
