@@ -2,7 +2,8 @@
 // The arguments are pairs of a job file and a reply file.
 #![tactic(auto)]
 
-ghost use Rattle.std.specs.Prelude.{◌≡◌, ◌+◌, ◌≤◌, ◌<◌, ◌^◌, length, take};
+ghost use Rattle.std.specs.Prelude.{◌≡◌, ◌+◌, ◌≤◌, ◌<◌, ◌^◌, length};
+ghost use Rattle.io.specs.Counts.{IsPrefixLen};
 
 use channel::MOST_CONNECTIONS;
 use lines::MOST_LINE;
@@ -201,7 +202,7 @@ fn read_full(file: &mut File, buf: &mut [u8]) -> usize
 
 // Says the name of the file and reads it; how many bytes it has.
 fn read(rt: &HostRuntime, path: &str, into: &mut [u8]) -> usize
-    ensures { (result ≤ length into.new) × (result ≡ length (take result into.new)) }
+    ensures { IsPrefixLen result into.new }
 {
     say(rt, path.as_bytes());
     match File::open(rt, path) {

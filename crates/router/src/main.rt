@@ -4,22 +4,24 @@
 // opened for it, and ends with that; no digit is status 4.
 #![tactic(auto)]
 
-ghost use Rattle.std.specs.Prelude.{◌≡◌, ◌≤◌, length, take};
+ghost use Rattle.std.specs.Prelude.{◌≤◌};
+ghost use Rattle.io.specs.Counts.{IsPrefixLen};
 
 use report::{MOST_INPUT, TEXT};
 use std::env::FillError;
-use std::fs::{File, OpenOptions};
-use std::io::{Read, Stdin, Write};
+use std::fs;
+use std::fs::File;
+use std::io::{Read, Stdin};
 use std::rt::Env;
-use std::{fs, io};
 
 // The status of a run that could not read its input or write its text; the others are the report's.
 const FAILED: u8 = 4;
 
-// Standard output and the descriptor on which the status is told, as paths: std takes no descriptor by its number.
-const OUTPUT: &str = "/proc/self/fd/1";
+// The descriptor on which the status is told.
+const STATUS: i32 = 3;
 
-const STATUS: &str = "/proc/self/fd/3";
+// Standard output as a path: std takes no descriptor by its number.
+const OUTPUT: &str = "/proc/self/fd/1";
 
 // What was read: how many bytes, and whether a read failed.
 #[derive(Clone, Copy)]
@@ -30,7 +32,7 @@ struct Got {
 
 // One read into the front of the buffer. One that fails reads nothing.
 fn read_some(mut from: Stdin, buf: &mut [u8]) -> Got
-    ensures { (result.length ≤ length buf.new) × (result.length ≡ length (take result.length buf.new)) }
+    ensures { IsPrefixLen result.length buf.new }
 {
     match from.read(buf) {
         Ok(length) => Got {
@@ -46,7 +48,7 @@ fn read_some(mut from: Stdin, buf: &mut [u8]) -> Got
 
 // Reads until the buffer is full, the input ends or a read fails. Each turn that goes on has read a byte at least, so the loop ends.
 fn read_input(from: Stdin, buf: &mut [u8]) -> Got
-    ensures { (result.length ≤ length buf.new) × (result.length ≡ length (take result.length buf.new)) }
+    ensures { IsPrefixLen result.length buf.new }
 {
     let mut done: usize = 0;
     while done < buf.len() {
@@ -125,20 +127,12 @@ fn is_asked(rt: &HostRuntime) -> bool {
     !matches!(&rt.arg(1, &mut word), Err(FillError::NotPresent))
 }
 
-// Writes the digit to the descriptor.
-fn tell_digit(rt: &HostRuntime, digit: u8) -> io::Result<()> {
-    OpenOptions::new()
-        .write(true)
-        .open(rt, STATUS)?
-        .write_all(&[digit])
-}
-
 // Tells the status, as a digit. Only where the program was started with an argument: so it never writes to a descriptor that somebody else opened.
 fn tell(rt: &HostRuntime, status: u8)
     requires { status ≤ 4 }
 {
     if is_asked(rt) {
-        let _ = tell_digit(rt, b'0' + status);
+        io::write_all(STATUS, &[b'0' + status]);
     }
 }
 
