@@ -33,11 +33,11 @@ use Rattle.silienvo.specs.contracts.silienvo_judge as judge
 use Rattle.silienvo.proofs.silienvo_judge.Kinds as judge-kinds
 use Rattle.silienvo.proofs.silienvo_judge.Reads as judge-reads
 use Rattle.silienvo.specs.contracts.silienvo_rows as rows
-use Rattle.silienvo.proofs.silienvo_rows.Kinds as rows_kinds
+use Rattle.silienvo.proofs.silienvo_rows.Kinds as rows-kinds
 use Rattle.silienvo.proofs.silienvo_rows.Reads as rows-reads
 use Rattle.silienvo.specs.contracts.silienvo_line as line
 use Rattle.silienvo.proofs.silienvo_line.Kinds as line-kinds
-use Rattle.silienvo.proofs.silienvo_line.Reads as line_reads_lem
+use Rattle.silienvo.proofs.silienvo_line.Reads as line-reads
 use Rattle.silienvo.specs.contracts.silienvo_reply as reply
 use Rattle.silienvo.proofs.silienvo_reply.Kinds as reply-kinds
 use Rattle.silienvo.proofs.silienvo_reply.Reads as reply-reads
@@ -78,12 +78,12 @@ pub one_judge : (κs : Lfts 2) (a : ArgsD judge.signature κs) (r r' : ResD judg
     → judge-reads.Post κs a r x → judge-reads.Post κs a r' x' → r ≡ r'
 one_judge κs a r r' x x' p q = p.is ∙ ap judgement_given (judges_one a.0.now a.1.0.now p.answer q.answer p.says q.says) ∙ sym q.is
 
-pub one_rows : (κs : Lfts 3) (a : ArgsD rows.signature κs) (r r' : ResD rows.signature κs) (x x' : AtExit (ended_of 3 rows_kinds.ps rows_kinds.r) κs)
+pub one_rows : (κs : Lfts 3) (a : ArgsD rows.signature κs) (r r' : ResD rows.signature κs) (x x' : AtExit (ended_of 3 rows-kinds.ps rows-kinds.r) κs)
     → rows-reads.Post κs a r x → rows-reads.Post κs a r' x' → (r ≡ r') × (x.1.1.0.now ≡ x'.1.1.0.now)
 one_rows κs a r r' x x' p q = let d = lines-one a.0.now a.1.0.now a.1.1.0.now p.answer q.answer _ _ p.says q.says in (p.is ∙ ap rows_given d.0 ∙ sym q.is, d.1)
 
 pub one_line : (κs : Lfts 2) (a : ArgsD line.signature κs) (r r' : ResD line.signature κs) (x x' : AtExit (ended_of 2 line-kinds.ps line-kinds.r) κs)
-    → line_reads_lem.Post κs a r x → line_reads_lem.Post κs a r' x' → (r ≡ r') × (x.1.1.0.now ≡ x'.1.1.0.now)
+    → line-reads.Post κs a r x → line-reads.Post κs a r' x' → (r ≡ r') × (x.1.1.0.now ≡ x'.1.1.0.now)
 one_line κs a r r' x x' p q = let d = line-writes-one a.0.now a.1.0 a.1.1.0.now p.answer q.answer _ _ p.says q.says in (p.is ∙ ap line_given d.0 ∙ sym q.is, d.1)
 
 pub one_reply : (κs : Lfts 3) (a : ArgsD reply.signature κs) (r r' : ResD reply.signature κs) (x x' : AtExit (ended_of 3 reply-kinds.ps reply-kinds.r) κs)
