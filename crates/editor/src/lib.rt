@@ -1,5 +1,5 @@
 // The editor's entry for P1: a lent list of records, each with left, right and mark, or of their bytes, routed as the file with those connections is.
-// Document 01, "The job file". A thin walk copies the records to the bytes that the covered core reads.
+// Document 01, "The job file". The records are copied to the bytes that the core reads.
 #![tactic(auto)]
 
 ghost use Rattle.std.specs.Prelude.{◌≡◌};

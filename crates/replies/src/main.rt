@@ -131,14 +131,14 @@ fn beside(job: &[u8], cut: &[u8], whole: u8, labels: &[u8; MOST_CONNECTIONS]) ->
 {
     let mut lent = LENT;
     let said = kind(reply::reply(job, cut, &mut lent));
-    if said == 0 && lent == LENT {
+    if said == 0 && check::same(&lent, &LENT) {
         return Tally {
             refused: 1,
             same: 0,
             other: 0,
         };
     }
-    if said == whole && lent == *labels {
+    if said == whole && check::same(&lent, labels) {
         return Tally {
             refused: 0,
             same: 1,

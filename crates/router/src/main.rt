@@ -10,7 +10,7 @@ ghost use Rattle.io.specs.Counts.{IsPrefixLen};
 use report::{MOST_INPUT, TEXT};
 use std::env::FillError;
 use std::fs;
-use std::fs::File;
+use std::fs::OpenOptions;
 use std::io::{Read, Stdin};
 use std::rt::Env;
 
@@ -75,9 +75,9 @@ fn writes_file(rt: &HostRuntime) -> bool {
     }
 }
 
-// Whether the file that standard output is keeps its bytes. One that may not be opened again has no more to say.
+// Whether the file that standard output is keeps its bytes. One that may not be opened again cannot be asked.
 fn keeps(rt: &HostRuntime) -> bool {
-    match File::open(rt, OUTPUT) {
+    match OpenOptions::new().write(true).open(rt, OUTPUT) {
         Ok(file) => file.sync_data().is_ok(),
         Err(_) => true,
     }

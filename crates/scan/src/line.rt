@@ -146,13 +146,13 @@ pub fn event(m: Mode, b: u8) -> Lit
 fn status(w: &[u8]) -> u8
     ensures { result ≡ line_code (status_word w.now) }
 {
-    if w == b"SATISFIABLE".as_slice() {
+    if check::same(w, b"SATISFIABLE") {
         return 1;
     }
-    if w == b"UNSATISFIABLE".as_slice() {
+    if check::same(w, b"UNSATISFIABLE") {
         return 2;
     }
-    if w == b"UNKNOWN".as_slice() {
+    if check::same(w, b"UNKNOWN") {
         return 3;
     }
     0

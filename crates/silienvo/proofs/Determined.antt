@@ -1,5 +1,5 @@
 -- Any two answers that the contract of an export allows are equal, and so is what they leave of the lent buffer: stated of the contracts as the checker reads them.
--- `silienvo_p1_route` takes a slice of records, and its contract is not generated in that form: there it is stated of `EditSays`, which is the contract. Assumes nothing.
+-- `silienvo_p1_route` takes a slice of records, and the older kit generated no contract in that form: there it is stated of `EditSays`, which is the contract. Assumes nothing.
 use mathlib.Core.Path.{◌≡◌, sym, ap, ◌∙◌}
 use mathlib.Core.List.{List}
 use Prim.Native.Nat.{ℕ}

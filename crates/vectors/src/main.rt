@@ -31,9 +31,9 @@ fn agrees_lent(r: &[u8], lent: &mut [u8]) -> bool {
         return false;
     }
     if byte(r, 0) == 1 {
-        return jobfile::connections(record::first(r)) == after(r);
+        return check::same(jobfile::connections(record::first(r)), after(r));
     }
-    *lent == *after(r)
+    check::same(lent, after(r))
 }
 
 // Whether the library does what the record says. Bytes that are no record never agree.

@@ -1,2 +1,2 @@
-// What the proofs by hand have in common, those of functions over a lent slice of records or over a struct that holds a slice. Laws only.
+// What walks by hand have in common, those of functions over a lent slice of records or over a struct that holds a slice. Laws only.
 #![tactic(auto)]

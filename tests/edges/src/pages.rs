@@ -34,7 +34,7 @@ fn asking(source: &str) -> Vec<&str> {
     let mut found = Vec::new();
     for part in source.split("\npub fn ").skip(1) {
         let head = &part[..part.find("\n{").unwrap_or(part.len())];
-        if head.contains("requires {") {
+        if head.lines().any(|line| line.trim_start().starts_with("requires ")) {
             found.extend(head.split(['(', '<']).next());
         }
     }
