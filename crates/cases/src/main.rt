@@ -1,29 +1,12 @@
 // Runs `report` on each file that an argument names, as the routing program does on standard input, and writes the file's name before what is printed.
 #![tactic(auto)]
 
-ghost use Rattle.std.specs.Prelude.{◌≤◌, length};
-
 use report::{MOST_INPUT, TEXT};
 use std::fs::File;
-use std::io::Read;
 use std::{env, io};
 
 fn say(rt: &HostRuntime, text: &[u8]) {
     let _ = rt.write_all(text);
-}
-
-// Reads until the buffer is full, the file ends or a read fails; how many bytes were read.
-fn read_full(file: &mut File, buf: &mut [u8]) -> usize
-    ensures { result ≤ length buf.new }
-{
-    let mut done: usize = 0;
-    while done < buf.len() {
-        match file.read(&mut buf[done..]) {
-            Ok(0) | Err(_) => return done,
-            Ok(n) => done += n,
-        }
-    }
-    done
 }
 
 // One file.
@@ -37,12 +20,11 @@ fn one(rt: &HostRuntime, path: &str) {
             return;
         }
     };
-    let mut input = [0u8; MOST_INPUT + 1];
-    let read = read_full(&mut file, &mut input);
+    let mut bytes = [0u8; MOST_INPUT + 1];
+    let read = input::read_full(&mut file, &mut bytes);
     let mut text = [0u8; TEXT];
-    let said = report::report(&input[..read], &mut text);
-    let printed = said.length;
-    say(rt, &text[..printed]);
+    let said = report::report(&bytes[..read], &mut text);
+    say(rt, &text[..said.length]);
 }
 
 fn main(rt: HostRuntime) -> io::Result<()> {

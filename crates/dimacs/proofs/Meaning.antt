@@ -9,14 +9,14 @@ use native.Mathlib.Omega.{arith}
 use lib.ListN.{length, length-map}
 use borrow.Author.Tests.{eq-eqb, ne_eqb}
 use Rattle.facts.proofs.Bools.{not-both, never}
-use Rattle.refusals.specs.Table.{FirstBroken, Searched, Refuses, Passes}
-use Rattle.refusals.proofs.Laws.{behind_row, behind_or, refuses_row, refuses_left, refuses_right, passes_row, passes_or, searched_all, searched_broken, printed_order}
+use Rattle.refusals.specs.Table.{FirstBroken, Refuses, Passes}
+use Rattle.refusals.proofs.Laws.{behind_row, behind_or, refuses_row, refuses_left, refuses_right, passes_row, passes_or, printed_order}
 use Rattle.dimacs.specs.Clause.{Literal, Clause}
 use Rattle.dimacs.specs.Decision.{first_false, first_bad, Parsed, Refused6, Sat, Unsat, Unsure, settle, bad_first, judged, answer_of, accepts, first_wrong, all_there, place7, checked, replied, reply_of}
 use Rattle.dimacs.specs.Reply.{Word, stop, lit, Status, satisfiable, unsatisfiable, unknown, statuses, literals, closed}
 use Rattle.dimacs.specs.Model.{before_nought, variables, among, holds, Reply, Refused, Accepted}
 use Rattle.dimacs.specs.Refusals.{lines_in, WellFormed, Keeps, GivesModel, Fits, Missing, Unfit, MadeTrue, IsModel, row6, row7, row8, reply_rows, Means, is_refused, is_accepted, is_claimed, is_unknown}
-use Rattle.dimacs.proofs.Searches.{bad_searched, false_searched, wrong_searched, all_there_lem, one_missing, false-none, true-none}
+use Rattle.dimacs.proofs.Searches.{From, searched_all, searched_broken, bad_searched, false_searched, wrong_searched, all_there_lem, one_missing, false-none, true-none}
 
 -- closed words are literals and then `0`
 pub closed_is : (ws : List Word) → closed ws ≡ true → ws ≡ map lit (before_nought ws) ++ (stop ∷ [])
@@ -41,7 +41,7 @@ pub gives_one : (t : List ℕ) (xs ys : List Literal) → GivesModel t xs → Gi
 gives_one t xs ys g h = sym (before_nought_is xs) ∙ ap before_nought (sym g.value_words ∙ h.value_words) ∙ before_nought_is ys
 
 -- a search that finds no place
-searched_none : {Rule : ℕ → Type 0} {r : ℕ} → Searched Rule r → ((k : ℕ) → FirstBroken Rule k → ⊥) → r ≡ 0
+searched_none : {Rule : ℕ → Type 0} {r : ℕ} → From Rule 1 r → ((k : ℕ) → FirstBroken Rule k → ⊥) → r ≡ 0
 searched_none {r = zero} s n = refl
 searched_none {r = suc k} s n = absurd (n (suc k) (searched_broken s (λ e. absurd (omega arith))))
 

@@ -9,7 +9,7 @@ use lib.Dec.{eqb, ltb}
 use lib.ListN.{length, get_or, take}
 use borrow.Author.Tests.{eqb-true, eqb-false, ltb-false, ltb-true}
 use Rattle.facts.proofs.Bools.{both, neither, or-both, not-both, never}
-use Rattle.refusals.specs.Table.{Searched, all_keep, one_breaks}
+use Rattle.refusals.specs.Table.{FirstBroken}
 use Rattle.dimacs.specs.Clause.{Clause, makes, makes_all}
 use Rattle.dimacs.specs.Decision.{first_false, first_bad, first_wrong, all_there}
 use Rattle.dimacs.specs.Reply.{Line, bad, quiet, says, gives}
@@ -17,7 +17,7 @@ use Rattle.dimacs.specs.Model.{among}
 use Rattle.dimacs.specs.Refusals.{Fits, Missing, MadeTrue}
 
 -- a search whose first place has the number k
-data From (Rule : ℕ → Type 0) (k r : ℕ) : Type 0 where
+pub data From (Rule : ℕ → Type 0) (k r : ℕ) : Type 0 where
   none : r ≡ 0 → ((i : ℕ) → Rule i) → From Rule k r
   one : (j : ℕ) → r ≡ j + k → (Rule j → ⊥) → ((i : ℕ) → i < j → Rule i) → From Rule k r
 
@@ -36,9 +36,15 @@ later {Rule} {Rest} {k} {r} z up down (one j e b h) = one (suc j) (let f : r ≡
     before zero l = z
     before (suc i) l = up i (h i (omega arith))
 
-searched : {Rule : ℕ → Type 0} {r : ℕ} → From Rule 1 r → Searched Rule r
-searched (none e h) = all_keep e h
-searched (one j e b h) = one_breaks (record { index = j; counted = e; broken = b; kept = h })
+-- what a search from 1 on brings: 0 if all keep the rule, and else the place of the first that breaks it
+module _ {Rule : ℕ → Type 0} where
+  pub searched_all : {r : ℕ} → From Rule 1 r → r ≡ 0 → (i : ℕ) → Rule i
+  searched_all (none e h) z = h
+  searched_all (one j e b h) z = absurd (omega arith)
+
+  pub searched_broken : {r : ℕ} → From Rule 1 r → (r ≡ 0 → ⊥) → FirstBroken Rule r
+  searched_broken (none e h) z = absurd (z e)
+  searched_broken (one j e b h) z = record { index = j; counted = e; broken = b; kept = h }
 
 bad_from : (k : ℕ) (ks : List Line) → From (λ i. get_or ks i quiet ≡ bad → ⊥) k (first_bad k ks)
 unfolding first_bad
@@ -49,8 +55,8 @@ bad_from k (says s ∷ ks) = later (λ e. never cc) (λ i h. h) (λ i h. h) (bad
 bad_from k (gives xs ∷ ks) = later (λ e. never cc) (λ i h. h) (λ i h. h) (bad_from (suc k) ks)
 
 -- the first line not well-formed
-pub bad_searched : (ks : List Line) → Searched (λ i. get_or ks i quiet ≡ bad → ⊥) (first_bad 1 ks)
-bad_searched ks = searched (bad_from 1 ks)
+pub bad_searched : (ks : List Line) → From (λ i. get_or ks i quiet ≡ bad → ⊥) 1 (first_bad 1 ks)
+bad_searched = bad_from 1
 
 false_from : (σ : ℕ → Bool) (k : ℕ) (cs : List Clause) → From (MadeTrue σ cs) k (first_false σ k cs)
 unfolding first_false
@@ -62,8 +68,8 @@ false_from σ k (c ∷ cs) = go (makes σ c) refl (false_from σ (suc k) cs)
     go false e f = here (λ g. not-both (g (omega arith)) e)
 
 -- the first clause that is made false
-pub false_searched : (σ : ℕ → Bool) (cs : List Clause) → Searched (MadeTrue σ cs) (first_false σ 1 cs)
-false_searched σ cs = searched (false_from σ 1 cs)
+pub false_searched : (σ : ℕ → Bool) (cs : List Clause) → From (MadeTrue σ cs) 1 (first_false σ 1 cs)
+false_searched σ = false_from σ 1
 
 -- as Fits, with some that were seen before the list
 abbrev FitsAfter : ℕ → List ℕ → List ℕ → ℕ → Type 0
@@ -97,8 +103,8 @@ fits_from n k vs (none e h) = none e (λ i g. let a = h i g in (a.0, a.2))
 fits_from n k vs (one j e b h) = one j e (λ f. b (λ g. let a = f g in (a.0, refl, a.1))) (λ i l g. let a = h i l g in (a.0, a.2))
 
 -- the first position whose variable is too large or seen before
-pub wrong_searched : (n : ℕ) (vs : List ℕ) → Searched (Fits n vs) (first_wrong n [] 1 vs)
-wrong_searched n vs = searched (fits_from n 1 vs (wrong_from n 1 [] vs))
+pub wrong_searched : (n : ℕ) (vs : List ℕ) → From (Fits n vs) 1 (first_wrong n [] 1 vs)
+wrong_searched n vs = fits_from n 1 vs (wrong_from n 1 [] vs)
 
 -- each variable is there, or one is missing
 pub all_there_lem : (n : ℕ) (vs : List ℕ) → all_there n vs ≡ true → (v : ℕ) → 1 ≤ v → v ≤ n → among v vs ≡ true

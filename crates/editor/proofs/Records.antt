@@ -1,23 +1,25 @@
--- A list of records and its bytes tell the same: the same rows hold, and the file is the same; so what the core answers is the entry's answer. Assumes nothing.
+-- The records and their bytes: the bytes of one more, each connection read back from them, and the same rows and the same file; so what is answered to the bytes is
+-- the entry's answer. Assumes nothing.
 use mathlib.Core.Path.{◌≡◌, refl, ap, sym, subst, ◌∙◌}
-use mathlib.Core.List.{List, [], ◌∷◌}
+use mathlib.Core.List.{List, [], ◌∷◌, ◌++◌, append_assoc}
 use mathlib.Core.Logic.{inl, inr}
-use Prim.Native.Nat.{ℕ, zero, suc, ◌+◌, ◌*◌, ◌≤◌, ◌<◌}
+use Prim.Native.Nat.{ℕ, zero, suc, ◌+◌, ◌*◌, ◌<◌}
 use native.Mathlib.Nat.{zero-add}
-use native.Mathlib.Numerals.{add-one, add-two}
+use native.Mathlib.Numerals.{add-one}
 use native.Mathlib.Omega.{arith}
-use native.Mathlib.Decide.{dec_lt}
-use lib.ListN.{length, get_or, take, set, length-replicate, length-map, get_or-map}
-use lib.Seq.{get_or-drop, ext_get_or, sets, sets-eq, take_at}
-use borrow.Author.Tests.{lt-ltb}
+use lib.ListN.{length, get_or, take, length-map, get_or-map}
+use lib.Seq.{get_or-drop, ext_get_or, take_at, length-take-le}
+use Rattle.std.specs.Prelude.{Result}
 use Rattle.refusals.specs.Table.{Refuses, before}
+use Rattle.refusals.specs.declared.Refusal.{Refusal}
+use Rattle.refusals.specs.Refusal.{number_of}
 use Rattle.refusals.proofs.Laws.{refuses_left, refuses_row, behind_row}
-use Rattle.text.proofs.Writing.{sets_append}
 use Rattle.channel.specs.Limits.{most_connections, Limits}
 use Rattle.channel.specs.Channel.{Connection}
 use Rattle.channel.specs.Valid.{ConnectionRule}
+use Rattle.jobfile.specs.declared.Connection.{Connection as Record}
 use Rattle.jobfile.specs.File.{connection_bytes, joined, encode}
-use Rattle.jobfile.specs.Rows.{connection_read, ConnectionKept, tab}
+use Rattle.jobfile.specs.Rows.{connection_size, connection_read, ConnectionKept, tab}
 use Rattle.jobfile.proofs.Decode.{tab-length, tab-at}
 use Rattle.jobfile.proofs.Encode.{connections_length}
 use Rattle.route.specs.declared.Verdict.{Verdict}
@@ -25,9 +27,7 @@ use Rattle.route.specs.Routes.{Routes}
 use Rattle.part.specs.Part.{job_of_part}
 use Rattle.part.specs.P1.{p1}
 use Rattle.part.specs.Writes.{count_of, connections_of, Takes, part_rows, file_of}
-use Rattle.editor.specs.declared.Connection.{Connection as Record}
 use Rattle.editor.specs.Edits.{connection_of, told_by, bytes_of, none, editor_rows, editor_file, AsFile, refuses, routes, Edits}
-use Rattle.editor.specs.Gathering.{RoutesBytes, most_bytes, no_bytes, placed, gathered}
 
 -- each connection is read back from the bytes of all
 read_at : (xs : List Connection) (i : ℕ) (d : Connection) → i < length xs → connection_read (joined connection_bytes xs) (3 * i) ≡ get_or xs i d
@@ -54,35 +54,28 @@ connections_told xs =
     let m : i < length xs = omega (arith, tab-length g (length xs) 0) in
     tab-at g d (length xs) 0 i m ∙ ap g (zero-add i) ∙ read_at xs i d m)
 
--- the records' bytes, one after the other
-pub placed_few : (l : List ℕ) (i : ℕ) (c : Record) → i < most_connections → set (set (set l (3 * i) c.left) (3 * i + 1) c.right) (3 * i + 2) c.mark ≡ placed l i c
-placed_few l i c h = sym (simp (lt-ltb i most_connections h))
+-- the bytes of one record more
+bytes_more : (cs : List Record) (i : ℕ) → i < length cs → bytes_of (take (suc i) cs) ≡ bytes_of (take i cs) ++ connection_bytes (connection_of (get_or cs i none))
+unfolding joined
+bytes_more [] i l = absurd (omega arith)
+bytes_more (c ∷ cs) zero l = refl
+bytes_more (c ∷ cs) (suc i) l = ap (λ z. connection_bytes (connection_of c) ++ z) (bytes_more cs i (omega arith))
 
-placed_sets : (l : List ℕ) (i : ℕ) (c : Record) → i < most_connections → placed l i c ≡ sets l (3 * i) (connection_bytes (connection_of c))
-placed_sets l i c h = sym (placed_few l i c h) ∙ (λ j. set (set (set l (3 * i) c.left) (add-one (3 * i) j) c.right) (add-two (3 * i) j) c.mark)
+pub bytes_long : (cs : List Record) → length (bytes_of cs) ≡ connection_size * length cs
+bytes_long cs = connections_length (told_by cs) ∙ ap (λ z. connection_size * z) (length-map cs connection_of)
 
-gathered_sets : (cs : List Record) (i : ℕ) (l : List ℕ) → i + length cs ≤ most_connections → gathered cs i l ≡ sets l (3 * i) (bytes_of cs)
-unfolding gathered joined
-gathered_sets [] i l h = refl
-gathered_sets (c ∷ cs) i l h =
-    let e : 3 * (i + 1) ≡ 3 * i + 3 = omega arith in
-    gathered_sets cs (i + 1) (placed l i c) (omega arith)
-    ∙ (λ j. sets (placed_sets l i c (omega arith) j) (e j) (bytes_of cs))
-    ∙ sym (sets_append l (3 * i) (connection_bytes (connection_of c)) (bytes_of cs))
+-- written behind those of the records before it, they stand in front
+pub front_more : (cs : List Record) (i : ℕ) (front rest : List ℕ) → i < length cs → front ≡ bytes_of (take i cs)
+    → take (connection_size * (i + 1)) (front ++ (connection_bytes (connection_of (get_or cs i none)) ++ rest)) ≡ bytes_of (take (i + 1) cs)
+front_more cs i front rest l e =
+    let one = connection_bytes (connection_of (get_or cs i none)) in
+    let more : front ++ one ≡ bytes_of (take (i + 1) cs) = rw (e, add-one) (sym (bytes_more cs i l)) in
+    let long : length (bytes_of (take (i + 1) cs)) ≡ connection_size * (i + 1) = bytes_long (take (i + 1) cs) ∙ ap (λ z. connection_size * z) (length-take-le (i + 1) cs (omega arith)) in
+    ap (take (connection_size * (i + 1))) (sym (append_assoc front one rest) ∙ ap (λ z. z ++ rest) more) ∙ take_at (bytes_of (take (i + 1) cs)) rest _ long
 
 module _ (cs : List Record) where
-  bytes_long : length (bytes_of cs) ≡ 3 * length cs
-  bytes_long = connections_length (told_by cs) ∙ ap (λ z. 3 * z) (length-map cs connection_of)
-
   count_is : count_of (bytes_of cs) ≡ length cs
-  count_is = omega (arith, bytes_long)
-
-  -- what is gathered has the records' bytes in front
-  gathered_front : length cs ≤ most_connections → take (3 * length cs) (gathered cs 0 no_bytes) ≡ bytes_of cs
-  gathered_front h =
-      let l : List ℕ = no_bytes in
-      ap (take (3 * length cs)) (gathered_sets cs 0 l (omega arith) ∙ sets-eq (bytes_of cs) l 0 (omega (arith, bytes_long, length-replicate {A = ℕ} most_bytes 0)))
-      ∙ take_at (bytes_of cs) _ (3 * length cs) bytes_long
+  count_is = omega (arith, bytes_long cs)
 
   read_is : (i : ℕ) → i < length cs → connection_read (bytes_of cs) (0 + 3 * i) ≡ connection_of (get_or cs i none)
   read_is i l = ap (connection_read (bytes_of cs)) (zero-add (3 * i)) ∙ read_at (told_by cs) i (connection_of none) (omega (arith, length-map cs connection_of)) ∙ get_or-map connection_of cs i none
@@ -102,7 +95,7 @@ module _ (cs : List Record) where
   takes-to n t k g = subst (λ m. Limits n t m k) count_is g.limits
 
   takes_from : (n t k : ℕ) → Limits n t (length cs) k → Takes n t (length (bytes_of cs)) k
-  takes_from n t k g = record { whole = omega (arith, bytes_long); limits = subst (λ m. Limits n t m k) (sym count_is) g }
+  takes_from n t k g = record { whole = omega (arith, bytes_long cs); limits = subst (λ m. Limits n t m k) (sym count_is) g }
 
   module _ (k : ℕ) where
     -- the same rows hold
@@ -114,20 +107,10 @@ module _ (cs : List Record) where
     rows_from x q (inl g) = inl (g.0, ((λ h. g.1.0 (takes-to 30 8 k h)), g.1.1))
     rows_from x q (inr g) = inr (g.0, record { index = g.1.index; counted = g.1.counted; broken = λ h. g.1.broken (kept-to 30 g.1.index h); kept = λ i l. kept_from 30 i (g.1.kept i l) })
 
-    pub as_records : (b : ℕ) (old new : List ℕ) (v : Verdict) → AsFile (part_rows p1 (bytes_of cs) k) (file_of p1 (bytes_of cs) k) b old v new → Edits cs k b old v new
-    as_records b old new v (refuses num place g e f) = refuses num place (record { holds = rows_to num place g.holds; first = λ x q h. g.first x q (rows_from x q h) }) e f
+    pub as_records : (b : ℕ) (old new : List ℕ) (v : Result Verdict Refusal) → AsFile (part_rows p1 (bytes_of cs) k) (file_of p1 (bytes_of cs) k) b old v new → Edits cs k b old v new
+    as_records b old new v (refuses r g e f) = refuses r (record { holds = rows_to (number_of r.reason) r.place g.holds; first = λ x q h. g.first x q (rows_from x q h) }) e f
     as_records b old new v (routes g h) = routes (λ x q i. g x q (rows_from x q i)) (subst (λ f. Routes f b old v new) (file_is k) h)
 
-    too_many_lem : most_connections < length cs → Refuses (editor_rows cs k) 2 0
+    pub too_many_lem : most_connections < length cs → Refuses (editor_rows cs k) 2 0
     unfolding before
     too_many_lem h = refuses_left (refuses_row 2 0 ((λ g. omega (arith, g.m_high)), refl)) (behind_row (omega arith))
-
-    -- what the core answers on the gathered bytes is the entry's answer
-    pub edits_of : (a : List ℕ) (b : ℕ) (old new : List ℕ) (v : Verdict) → a ≡ gathered cs 0 no_bytes → RoutesBytes a (length cs) k b old v new → Edits cs k b old v new
-    edits_of a b old new v e g = go (dec_lt most_connections (length cs))
-      where
-        go : Dec (most_connections < length cs) → Edits cs k b old v new
-        go (yes h) = refuses 2 0 (too_many_lem h) (g.many h).0 (g.many h).1
-        go (no n) =
-            let few : length cs ≤ most_connections = omega arith in
-            as_records b old new v (subst (λ z. AsFile (part_rows p1 z k) (file_of p1 z k) b old v new) (ap (take (3 * length cs)) e ∙ gathered_front few) (g.few few))

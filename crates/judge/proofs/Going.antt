@@ -7,7 +7,8 @@ use native.Mathlib.Omega.{arith}
 use lib.ListN.{length, get_or, take, replicate}
 use lib.Seq.{length-take-le}
 use Rattle.facts.proofs.Bools.{never}
-use Rattle.refusals.specs.Table.{Searched, all_keep, one_breaks}
+use Rattle.std.specs.Prelude.{Some, None}
+use Rattle.refusals.specs.Table.{Searched}
 use Rattle.channel.specs.Channel.{track_at, connection_at, T, M}
 use Rattle.channel.specs.Valid.{Valid}
 use Rattle.channel.specs.Routing.{routings_by, routings}
@@ -48,18 +49,18 @@ module _ {f q marks : List ℕ} {i : ℕ} (g : Going f q marks i) where
   passed x l m = legal-kept (job_of f) q i g.within g.kept.legal x l
 
   -- a label that is not kept ends the walk
-  breaks : i < length q → (LabelKept (job_of f) q i → ⊥) → Searched (RoutingKept f q) (i + 1)
-  breaks h n = one_breaks (record { index = i; counted = refl; broken = λ k. n (k (let e = g.many in omega arith)); kept = passed })
+  breaks : i < length q → (LabelKept (job_of f) q i → ⊥) → Searched (RoutingKept f q) (Some (i + 1))
+  breaks h n = record { index = i; counted = refl; broken = λ k. n (k (let e = g.many in omega arith)); kept = passed }
 
-  pub going_low : i < length q → get_or q i 0 < 1 → Searched (RoutingKept f q) (i + 1)
+  pub going_low : i < length q → get_or q i 0 < 1 → Searched (RoutingKept f q) (Some (i + 1))
   going_low h l = breaks h (λ k. omega (arith, k.label.0))
 
-  pub going_high : i < length q → t_of f < get_or q i 0 → Searched (RoutingKept f q) (i + 1)
+  pub going_high : i < length q → t_of f < get_or q i 0 → Searched (RoutingKept f q) (Some (i + 1))
   going_high h l = breaks h (λ k. omega (arith, k.label.1, (job_numbers f).t_is))
 
   -- all are passed
-  pub going_last : length q ≤ i → Searched (RoutingKept f q) 0
-  going_last h = all_keep refl (λ x l. passed x (omega (arith, g.many, g.within)) l)
+  pub going_last : length q ≤ i → Searched (RoutingKept f q) None
+  going_last h = λ x l. passed x (omega (arith, g.many, g.within)) l
 
 module _ {f q marks : List ℕ} {i : ℕ} (k : Asked f q marks i) where
   g : Going f q marks i
@@ -95,7 +96,7 @@ module _ {f q marks : List ℕ} {i : ℕ} (k : Asked f q marks i) where
       answer : r ≡ fits_run (owner_at (job_of f) i) marks (get_or q i 0) a e
       answer = told ∙ ap (λ (x : ℕ). fits_run x marks (get_or q i 0) a e) by
 
-      pub asked_shut : r ≡ false → Searched (RoutingKept f q) (i + 1)
+      pub asked_shut : r ≡ false → Searched (RoutingKept f q) (Some (i + 1))
       asked_shut s = breaks g k.inside (λ h. let y = sym (kept_fits (job_of f) q i k.inside h) ∙ sym test ∙ sym answer ∙ s in never cc)
 
       fits : r ≡ true → fits_run (owner_at (job_of f) i) marks (get_or q i 0) a e ≡ true

@@ -2,88 +2,63 @@
 // Document 01, "Channel, connection, legal", and row 11 of "Replies by number". specs/Judges.antt has the row and the judgements.
 #![tactic(auto)]
 
-ghost use Rattle.std.specs.Prelude.{◌≡◌, length};
+ghost use Rattle.std.specs.Prelude.{◌≡◌, length, MatchResult};
 ghost use Rattle.refusals.specs.Table.{Searched};
-ghost use Rattle.jobfile.specs.Rows.{t_of, m_of};
-ghost use Rattle.jobfile.specs.Facts.{Facts};
-ghost use Rattle.judge.specs.Judges.{RoutingKept, Judges};
+ghost use Rattle.refusals.specs.Refusal.{RefusedBy};
+ghost use Rattle.channel.specs.Routing.{Routing};
+ghost use Rattle.jobfile.specs.Rows.{m_of, job_of};
+ghost use Rattle.judge.specs.Judges.{RoutingKept, judge_rows, Judges};
 
 use channel::Label;
-use jobfile::Read;
-use marks::MARKS;
-use text::wide;
+use jobfile::JobFile;
+use marks::Marks;
+use refusals::{Reason, Refusal};
 
-// What brought labels are: a legal routing of the file's job, or refused by a row of the table at a place.
-#[derive(Clone, Copy)]
-pub enum Judgement {
-    Legal,
-    Refused { number: u8, place: usize },
-}
-
-// The first connection whose label is outside 1 to T, barred, or collides with an earlier one; 0 if there is none.
+// The first connection whose label is outside 1 to T, barred, or collides with an earlier one.
 // The marks are those of the connections before it, so that each label is asked once. Of the table of occupied segments only one cell a connection is
 // wanted, that of its label's track, so no table is made.
-fn bad_label(file: &[u8], tracks: u8, labels: &[u8]) -> usize
-    requires { Facts file.now × (tracks ≡ t_of file.now) × (length labels.now ≡ m_of file.now) }
-    ensures { Searched (RoutingKept file.now labels.now) result }
+fn bad_label(job: &JobFile, labels: &[u8]) -> Option<usize>
+    requires { length labels.now ≡ m_of job.now.bytes.now }
+    ensures { Searched (RoutingKept job.now.bytes.now labels.now) result }
 {
-    let heads = jobfile::starts(file);
-    let mut marks = [0; MARKS];
-    let mut i = 0;
-    while i < labels.len() {
+    let heads = job.starts();
+    let mut marks = Marks::none();
+    for (i, &label) in labels.iter().enumerate() {
         let number = i + 1;
-        let label = labels[i];
         if label < 1 {
-            return number;
+            return Some(number);
         }
-        if tracks < label {
-            return number;
+        if job.sizes.tracks < label {
+            return Some(number);
         }
-        let run = occupancy::bounds_on(file, &heads, Label(label), i);
-        let first = wide(run.first);
-        let last = wide(run.last);
-        let owner = occupancy::owner_on(file, i);
-        if !marks::fits_run(owner, &marks, Label(label), first, last) {
-            return number;
+        let run = occupancy::bounds_on(job, &heads, Label(label), i);
+        let first = usize::from(run.first);
+        let last = usize::from(run.last);
+        let owner = occupancy::owner_on(job, i);
+        if !marks.fits_run(owner, Label(label), first, last) {
+            return Some(number);
         }
-        marks::take_run(owner, &mut marks, Label(label), first, last);
-        i += 1;
+        marks.take_run(owner, Label(label), first, last);
     }
-    0
+    None
 }
 
-// The judgement, for every byte string and all labels.
-pub fn judge(file: &[u8], labels: &[u8]) -> Judgement
+// The judgement on labels for a file that was read, of which row 11 alone may hold.
+pub fn judge_job(job: &JobFile, labels: &[u8]) -> Result<(), Refusal>
+    ensures { let f = job.now.bytes.now in MatchResult result (λ _. Routing (job_of f) labels.now) (RefusedBy (judge_rows f labels.now)) }
+{
+    if labels.len() != usize::from(job.sizes.connections) {
+        return Err(Reason::Routing.at(0));
+    }
+    match bad_label(job, labels) {
+        Some(bad) => Err(Reason::Routing.at(bad)),
+        None => Ok(()),
+    }
+}
+
+// The judgement, for every byte string and all labels: a legal routing of the file's job, or why it is none.
+pub fn judge(file: &[u8], labels: &[u8]) -> Result<(), Refusal>
     ensures { Judges file.now labels.now result }
 {
-    match jobfile::read_job(file) {
-        Read::Job {
-            columns: _,
-            tracks: t,
-            connections: m,
-            limit: _,
-        } => {
-            if labels.len() != wide(m) {
-                return Judgement::Refused {
-                    number: 11,
-                    place: 0,
-                };
-            }
-            let bad = bad_label(file, t, labels);
-            if bad != 0 {
-                return Judgement::Refused {
-                    number: 11,
-                    place: bad,
-                };
-            }
-            Judgement::Legal
-        }
-        Read::Refused {
-            number: n,
-            place: p,
-        } => Judgement::Refused {
-            number: n,
-            place: p,
-        },
-    }
+    judge_job(&JobFile::read(file)?, labels)
 }

@@ -10,14 +10,15 @@ use borrow.Fn.World.{ArgsD, ResD}
 use borrow.Fn.Kinds.{ended_of}
 use denote.Triple.Clauses.{AtExit}
 use Rattle.facts.proofs.Bools.{never}
+use Rattle.std.specs.Prelude.{Result, Ok, Err}
+use Rattle.refusals.specs.declared.Refusal.{Refusal}
+use Rattle.refusals.specs.Refusal.{number_of}
 use Rattle.refusals.specs.Table.{before, row, ◌or◌, nowhere, room_row, Passes, Sound, line as at}
-use Rattle.refusals.proofs.Laws.{decided_one, sound_or, sound_front, sound_row, nowhere-one, behind_row, passes_or, passes_row}
+use Rattle.refusals.proofs.Laws.{refused_one, sound_or, sound_front, sound_row, nowhere-one, behind_row, passes_or, passes_row}
 use Rattle.text.specs.Text.{Wrote}
 use Rattle.jobfile.specs.Rows.{file_rows, job_of}
 use Rattle.jobfile.proofs.Exact.{file_sound, job_is, facts_of, facts_pass}
 use Rattle.clauses.specs.Clauses.{clause_count}
-use Rattle.lines.specs.declared.Answer.{Answer}
-use Rattle.lines.specs.declared.Answer.TheVariants.{Line, Refused}
 use Rattle.lines.specs.Lined.{most_line, line_text}
 use Rattle.lines.specs.Writes.{line_rows, WrittenLine, WritesLine}
 use Rattle.lines.proofs.Answers.{file_early}
@@ -43,19 +44,19 @@ module _ (f : List ℕ) (number : ℕ) (old : List ℕ) where
       let e : clause_count w.job ≡ clause_count (job_of f) = ap clause_count (job_is f w.job w.of_file) in
       passes_or (facts_pass f (facts_of f w.job w.of_file)) (passes_or (passes_row 9 (λ p h. let z = h.0 in omega arith)) (passes_row 10 (λ p h. let z = h.0 in omega arith)))
 
-  pub writes_one : (r r' : Answer) (new new' : List ℕ) → WritesLine f number old r new → WritesLine f number old r' new' → (r ≡ r') × (new ≡ new')
-  writes_one (Line k) (Line k') new new' p q =
+  pub writes_one : (r r' : Result ℕ Refusal) (new new' : List ℕ) → WritesLine f number old r new → WritesLine f number old r' new' → (r ≡ r') × (new ≡ new')
+  writes_one (Ok k) (Ok k') new new' p q =
       let e : line_text p.job number ≡ line_text q.job number = ap (λ j. line_text j number) (job_is f p.job p.of_file ∙ sym (job_is f q.job q.of_file)) in
       let w = subst (λ t. Wrote old 0 t new k) e p.wrote in
-      (ap Line (w.next ∙ sym q.wrote.next), w.is ∙ sym q.wrote.is)
-  writes_one (Line k) (Refused a b) new new' p q = absurd (written_passes new k p a b q.0.holds)
-  writes_one (Refused a b) (Line k) new new' p q = absurd (written_passes new' k q a b p.0.holds)
-  writes_one (Refused a b) (Refused a' b') new new' p q = let d = decided_one (line_sound f (length old) number) p.0 q.0 in ((λ z. Refused (d.0 z) (d.1 z)), p.1 ∙ sym q.1)
+      (ap Ok (w.next ∙ sym q.wrote.next), w.is ∙ sym q.wrote.is)
+  writes_one (Ok k) (Err s) new new' p q = absurd (written_passes new k p _ _ q.0.holds)
+  writes_one (Err r) (Ok k) new new' p q = absurd (written_passes new' k q _ _ p.0.holds)
+  writes_one (Err r) (Err s) new new' p q = (ap Err (refused_one (line_sound f (length old) number) r s p.0 q.0), p.1 ∙ sym q.1)
 
   -- a refusal is given exactly if a row holds
-  pub row_exactly : (r : Answer) (new : List ℕ) → WritesLine f number old r new → ((a : ℕ) × (p : ℕ) × (r ≡ Refused a p)) ↔ ((x : ℕ) × (p : ℕ) × line_rows f (length old) number x p)
-  row_exactly (Line k) new w = (λ h. never (cc h.2), λ h. absurd (written_passes new k w h.0 h.1 h.2))
-  row_exactly (Refused a p) new w = (λ h. (a, p, w.0.holds), λ h. (a, p, refl))
+  pub row_exactly : (r : Result ℕ Refusal) (new : List ℕ) → WritesLine f number old r new → ((a : Refusal) × (r ≡ Err a)) ↔ ((x : ℕ) × (p : ℕ) × line_rows f (length old) number x p)
+  row_exactly (Ok k) new w = (λ h. never (cc h.1), λ h. absurd (written_passes new k w h.0 h.1 h.2))
+  row_exactly (Err a) new w = (λ h. (number_of a.reason, a.place, w.0.holds), λ h. (a, refl))
 
 pub one_answer : (κs : Lfts 2) (a : ArgsD line.signature κs) (r r' : ResD line.signature κs) (x x' : AtExit (ended_of 2 kinds.ps kinds.r) κs)
     → reads.Post κs a r x → reads.Post κs a r' x' → (r ≡ r') × (x.1.1.0.now ≡ x'.1.1.0.now)

@@ -1,20 +1,19 @@
 -- The text of literals and clauses by the bytes that are put down: one literal, the literals of a code, a clause at a place. Assumes nothing.
-use mathlib.Core.Path.{◌≡◌, refl, sym, ap, ◌∙◌, subst}
+use mathlib.Core.Path.{◌≡◌, refl, sym, ap, ◌∙◌}
 use mathlib.Core.Bool.{Bool, true, false, cond}
-use mathlib.Core.List.{List, [], ◌∷◌, ◌++◌, append_assoc, append-nil}
+use mathlib.Core.List.{[], ◌∷◌, ◌++◌, append_assoc, append-nil}
 use Prim.Native.Nat.{ℕ, zero, suc, ◌+◌, ◌*◌, ◌-◌, ◌/◌, ◌≤◌, ◌<◌}
 use native.Mathlib.Omega.{arith}
 use native.Mathlib.Nat.{suc-mul}
 use native.Mathlib.Numerals.{sub-one}
 use Rattle.facts.specs.Odd.{odd}
-use Rattle.text.specs.Text.{Wrote, digits}
+use Rattle.text.specs.Text.{digits}
 use Rattle.dimacs.specs.Clause.{Clause}
 use Rattle.dimacs.specs.Lines.{literal_text, literals_text, clause_text}
 use Rattle.channel.specs.Limits.{most_connections, most_bits, most_variables}
 use Rattle.channel.specs.declared.Code.{Code}
 use Rattle.clauses.specs.Clauses.{forbid, bar}
 use Rattle.clauses.proofs.Width.{variables_few}
-use Rattle.places.specs.declared.Place.{Place}
 use Rattle.places.specs.declared.Place.TheVariants.{One, Two}
 use Rattle.places.specs.Places.{clause_at}
 
@@ -49,18 +48,11 @@ literals_more (suc k) v c z =
 pub last_variable : (i w : ℕ) → i < most_connections → w ≤ most_bits → i * w + w ≤ most_variables
 last_variable i w h g = let z = variables_few (suc i) w h g in let s = suc-mul i w in omega arith
 
-one_line : (w i : ℕ) (c : Code) → clause_text (clause_at w (One i c)) ≡ literals_text (bar w i c.0) ++ (48 ∷ 10 ∷ [])
+-- the line of the clause at a place
+pub one_line : (w i : ℕ) (c : Code) → clause_text (clause_at w (One i c)) ≡ literals_text (bar w i c.0) ++ (48 ∷ 10 ∷ [])
 unfolding clause_text clause_at
 one_line w i c = refl
 
-two-line : (w h i : ℕ) (c : Code) → clause_text (clause_at w (Two h i c)) ≡ literals_text (bar w h c.0) ++ literals_text (bar w i c.0) ++ (48 ∷ 10 ∷ [])
+pub two-line : (w h i : ℕ) (c : Code) → clause_text (clause_at w (Two h i c)) ≡ literals_text (bar w h c.0) ++ literals_text (bar w i c.0) ++ (48 ∷ 10 ∷ [])
 unfolding clause_text clause_at
 two-line w h i c = ap (λ t. t ++ (48 ∷ 10 ∷ [])) (literals-append (bar w h c.0) (bar w i c.0))
-
--- what was put down is the clause's line
-module _ (old new : List ℕ) (r w : ℕ) (p : Place) where
-  pub wrote_one : (i : ℕ) (c : Code) → p ≡ One i c → Wrote old 0 (literals_text (bar w i c.0) ++ (48 ∷ 10 ∷ [])) new r → Wrote old 0 (clause_text (clause_at w p)) new r
-  wrote_one i c e h = subst (λ t. Wrote old 0 t new r) (sym (ap (λ q. clause_text (clause_at w q)) e ∙ one_line w i c)) h
-
-  pub wrote_two : (h i : ℕ) (c : Code) → p ≡ Two h i c → Wrote old 0 (literals_text (bar w h c.0) ++ literals_text (bar w i c.0) ++ (48 ∷ 10 ∷ [])) new r → Wrote old 0 (clause_text (clause_at w p)) new r
-  wrote_two h i c e g = subst (λ t. Wrote old 0 t new r) (sym (ap (λ q. clause_text (clause_at w q)) e ∙ two-line w h i c)) g

@@ -1,13 +1,13 @@
 -- Document 01, "Clause lines" and "Replies by number": what a call for a line answers, and what the lent buffer is afterwards. Assumes nothing: these are definitions.
-use Rattle.std.specs.Prelude.{◌≡◌, List, ℕ, ◌≤◌, ◌<◌, length}
-use Rattle.refusals.specs.Table.{Rows, row, ◌or◌, nowhere, room_row, Refuses}
+use Rattle.std.specs.Prelude.{◌≡◌, List, Result, Ok, Err, ℕ, ◌≤◌, ◌<◌, length}
+use Rattle.refusals.specs.declared.Refusal.{Refusal}
+use Rattle.refusals.specs.Refusal.{RefusedBy}
+use Rattle.refusals.specs.Table.{Rows, row, ◌or◌, nowhere, room_row}
 use Rattle.text.specs.Text.{Wrote}
 use Rattle.channel.specs.Channel.{Job}
 use Rattle.jobfile.specs.Rows.{file_rows, job_of}
 use Rattle.jobfile.specs.Reads.{FileOf}
 use Rattle.clauses.specs.Clauses.{clause_count}
-use Rattle.lines.specs.declared.Answer.{Answer}
-use Rattle.lines.specs.declared.Answer.TheVariants.{Line, Refused}
 use Rattle.lines.specs.Lined.{most_line, line_text}
 
 -- the rows that fit the call: 1 to 5 of the file, 9 for a buffer under 62 bytes, 10 for a number above C
@@ -23,6 +23,6 @@ pub record WrittenLine (f : List ℕ) (number : ℕ) (old new : List ℕ) (k : �
   pub wrote : Wrote old 0 (line_text job number) new k
 
 -- document 01's number and values for each answer; a refusal changes no byte
-abbrev pub WritesLine : List ℕ → ℕ → List ℕ → Answer → List ℕ → Type 0
-WritesLine f number old (Line k) new = WrittenLine f number old new k
-WritesLine f number old (Refused num place) new = Refuses (line_rows f (length old) number) num place × (new ≡ old)
+abbrev pub WritesLine : List ℕ → ℕ → List ℕ → Result ℕ Refusal → List ℕ → Type 0
+WritesLine f number old (Ok k) new = WrittenLine f number old new k
+WritesLine f number old (Err r) new = RefusedBy (line_rows f (length old) number) r × (new ≡ old)

@@ -1,17 +1,20 @@
 -- Laws of the marks: a run that is free, a run that is filled. Assumes nothing.
-use mathlib.Core.Path.{◌≡◌, refl, sym, ap, ◌∙◌}
-use mathlib.Core.Bool.{true, false, ◌||◌, not, or-true}
+use mathlib.Core.Path.{◌≡◌, refl, ap, ◌∙◌}
+use mathlib.Core.Bool.{true, ◌&&◌, ◌||◌, not, or-true, and-true}
 use mathlib.Core.Logic.{◌⊎◌, inl, inr, ⊎_elim}
-use mathlib.Core.List.{List}
+use mathlib.Core.List.{List, [], ◌∷◌}
 use Prim.Native.Nat.{ℕ, zero, suc, ◌+◌, ◌≤◌, ◌<◌}
-use native.Mathlib.Nat.{eq-or-lt_of_le, le_of_suc-le-suc, not-suc-le-zero}
+use native.Mathlib.Nat.{add-zero, eq-or-lt_of_le, le_of_suc-le-suc, not-suc-le-zero}
 use native.Mathlib.Numerals.{add-one}
 use native.Mathlib.Omega.{arith}
 use lib.Dec.{ltb, eqb}
-use lib.ListN.{length, get_or, set, length-set}
-use lib.Seq.{get_or-set_same, get_or-set_other}
+use lib.ListN.{length, get_or, set, length-set, replicate}
+use lib.Seq.{paste, get_or-set_same, get_or-set_other}
 use borrow.Author.Tests.{not-true, ltb-false, eqb-true, eq-eqb}
-use Rattle.facts.proofs.Bools.{whether, not-both, and_left, and_right, and_both, false-by}
+use Rattle.std.specs.List.{between, list_all}
+use Rattle.std.proofs.lemmas.List.Folds.{list_all-append}
+use Rattle.std.proofs.lemmas.List.Edits.{between_none, between_more, paste_none, fill_from_more}
+use Rattle.facts.proofs.Bools.{whether, and_left, and_right, and_both}
 use Rattle.occupancy.specs.Runs.{owner_in}
 use Rattle.marks.specs.Marking.{free, all_free, fill, fits_run, first, last, fits_in}
 
@@ -38,23 +41,30 @@ module _ (owner : ℕ) (marks : List ℕ) (at : ℕ) where
   all_free_is zero h = refl
   all_free_is (suc n) h = and_both (all_free_is n (λ k l. h k (omega arith))) (h n (omega arith))
 
-  -- one mark more
-  pub all_free_next : (n : ℕ) → all_free owner marks at n ≡ true → free owner (get_or marks (at + n) 0) ≡ true → all_free owner marks at (n + 1) ≡ true
+  -- the same of the marks of the run as a list
+  pub all_free_list : (n : ℕ) → at + n ≤ length marks → list_all (free owner) (between at (at + n) marks) ≡ all_free owner marks at n
   unfolding all_free
-  all_free_next n h e = ap (all_free owner marks at) (add-one n) ∙ and_both h e
-
-  -- one mark that is taken
-  pub all_free_fails : (n k : ℕ) → k < n → free owner (get_or marks (at + k) 0) ≡ false → all_free owner marks at n ≡ false
-  all_free_fails n k h e = false-by (λ a. not-both (all_free_says n a k h) e)
+  all_free_list zero h = ap (λ (e : ℕ). list_all (free owner) (between at e marks)) (add-zero at) ∙ ap (list_all (free owner)) (between_none marks at)
+  all_free_list (suc n) h =
+      let e : at + suc n ≡ at + n + 1 = omega arith in
+      ap (λ (e : ℕ). list_all (free owner) (between at e marks)) e
+      ∙ ap (list_all (free owner)) (between_more marks at (at + n) 0 (omega arith) (omega arith))
+      ∙ list_all-append (free owner) (between at (at + n) marks) (get_or marks (at + n) 0 ∷ [])
+      ∙ (λ i. all_free_list n (omega arith) i && and-true (free owner (get_or marks (at + n) 0)) i)
 
 pub fill-length : (v : ℕ) (marks : List ℕ) (at n : ℕ) → length (fill v marks at n) ≡ length marks
 unfolding fill
 fill-length v marks at zero = refl
 fill-length v marks at (suc n) = length-set (fill v marks at n) (at + n) v ∙ fill-length v marks at n
 
-pub fill_next : (v : ℕ) (marks : List ℕ) (at n : ℕ) → set (fill v marks at n) (at + n) v ≡ fill v marks at (n + 1)
+-- the run with the new owner's marks in the place of the old ones
+pub fill_paste : (v : ℕ) (marks : List ℕ) (at n : ℕ) → at + n ≤ length marks → fill v marks at n ≡ paste marks at (replicate n v) n
 unfolding fill
-fill_next v marks at n = ap (fill v marks at) (sym (add-one n))
+fill_paste v marks at zero h = paste_none marks at (replicate 0 v)
+fill_paste v marks at (suc n) h =
+    ap (λ z. set z (at + n) v) (fill_paste v marks at n (omega arith))
+    ∙ fill_from_more marks at n v (omega arith)
+    ∙ ap (λ (k : ℕ). paste marks at (replicate k v) k) (add-one n)
 
 -- elsewhere a mark is as it was
 pub fill_off : (v : ℕ) (marks : List ℕ) (at n j : ℕ) → ((k : ℕ) → k < n → j ≡ at + k → ⊥) → get_or (fill v marks at n) j 0 ≡ get_or marks j 0

@@ -1,14 +1,11 @@
 -- The code that marks spell: bit by bit, below 2 ^ k, and the one that the clauses' variables spell. Assumes nothing.
-use mathlib.Core.Path.{◌≡◌, refl, sym, ap, ◌∙◌}
+use mathlib.Core.Path.{◌≡◌, refl, sym, ap}
 use mathlib.Core.Bool.{Bool}
 use mathlib.Core.List.{List}
 use Prim.Native.Nat.{ℕ, zero, suc, ◌+◌, ◌*◌, ◌^◌, ◌≤◌, ◌<◌}
 use native.Mathlib.Omega.{arith}
-use native.Mathlib.Decide.{dec_lt}
 use native.Mathlib.Nat.{pow-succ'}
 use native.Mathlib.Numerals.{add-one}
-use lib.ListN.{length, get_or, set}
-use lib.Seq.{get_or-set_same, get_or-set_other}
 use lib.Pow.{pow_mono}
 use Rattle.facts.specs.Odd.{bit_of}
 use Rattle.channel.specs.Limits.{most_bits}
@@ -38,11 +35,3 @@ module _ (marks : List ℕ) (v : ℕ) where
       let r = code_agrees σ k (λ u a b. h u a (omega arith)) in
       let e = h (v + k) (omega arith) (omega arith) in
       λ i. r i * 2 + bit_of (sym e i)
-
--- one more entry of a table
-pub set_next : {A : Type 0} (g : ℕ → A) (l : List A) (d : A) (i : ℕ) (x : A) → i < length l → x ≡ g i → ((u : ℕ) → u < i → get_or l u d ≡ g u) → (u : ℕ) → u < i + 1 → get_or (set l i x) u d ≡ g u
-set_next g l d i x h e k u m = go (dec_lt u i)
-  where
-    go : Dec (u < i) → get_or (set l i x) u d ≡ g u
-    go (yes a) = get_or-set_other l i u x d (omega arith) ∙ k u a
-    go (no a) = let q : u ≡ i = omega arith in ap (λ z. get_or (set l i x) z d) q ∙ get_or-set_same l i x d h ∙ e ∙ ap g (sym q)

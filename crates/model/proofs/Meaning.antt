@@ -9,6 +9,7 @@ use native.Mathlib.Nat.{add-zero, add-suc, suc-add}
 use lib.Dec.{eqb}
 use lib.ListN.{length}
 use borrow.Author.Tests.{eqb-true, eqb-false}
+use Rattle.std.specs.Prelude.{Result, Ok, Err}
 use Rattle.facts.proofs.Bools.{never}
 use Rattle.dimacs.specs.Clause.{makes}
 use Rattle.dimacs.specs.Decision.{first_false}
@@ -21,16 +22,14 @@ use Rattle.places.specs.declared.Place.{Place}
 use Rattle.places.specs.Places.{clause_at, place_at, places_of}
 use Rattle.places.proofs.Rows.{all_places}
 use Rattle.places.proofs.Places.{map_places}
-use Rattle.model.specs.declared.Walk.{Walk}
-use Rattle.model.specs.declared.Walk.TheVariants.{False, Passed}
 use Rattle.model.specs.Codes.{code_for}
 use Rattle.model.specs.Walks.{false_at, Brings}
 use Rattle.model.proofs.Walking.{Quiet}
 
 -- the number that a walk found, or 0
-abbrev pub place_of : Walk → ℕ
-place_of (False p) = p
-place_of (Passed k) = 0
+abbrev pub place_of : Result ℕ ℕ → ℕ
+place_of (Err p) = p
+place_of (Ok k) = 0
 
 module _ (σ : ℕ → Bool) (w : ℕ) (codes : List Code) where
   -- the codes tell whether the clause at a place is false
@@ -84,9 +83,9 @@ module _ (σ : ℕ → Bool) (grid : Grid) (codes : List Code) (is : (i : ℕ) �
   all_fair = all_places grid (Fair σ w codes) fair
 
   -- THE WALK FINDS THE FIRST FALSE CLAUSE
-  pub walk_finds : (r : Walk) → Brings codes (places_of grid) r → first_false σ 1 (clauses_of grid) ≡ place_of r
-  walk_finds (False p) h =
+  pub walk_finds : (r : Result ℕ ℕ) → Brings codes (places_of grid) r → first_false σ 1 (clauses_of grid) ≡ place_of r
+  walk_finds (Err p) h =
       ap (first_false σ 1) (sym (map_places grid) ∙ ap (map (clause_at w)) h.is)
       ∙ first-at σ w codes h.passed h.rest h.place 1 (subst (Each (Fair σ w codes)) h.is all_fair) h.before h.there
       ∙ (let n = h.number in let e : 1 + length h.passed ≡ p = omega arith in e)
-  walk_finds (Passed k) h = ap (first_false σ 1) (sym (map_places grid)) ∙ first-none σ w codes (places_of grid) 1 all_fair h.0
+  walk_finds (Ok k) h = ap (first_false σ 1) (sym (map_places grid)) ∙ first-none σ w codes (places_of grid) 1 all_fair h.0

@@ -1,21 +1,18 @@
 -- Stepping stones: a walk over the places of clauses, with the code of each connection: the first clause that the codes make false, by its number.
 -- `walk_finds` (proofs/Meaning.antt) says that it is the first false clause of the list. Assumes nothing: these are definitions.
-use Rattle.std.specs.Prelude.{◌≡◌, Bool, true, false, ◌&&◌, List, ◌∷◌, ◌++◌, ℕ, ◌+◌, ◌<◌, eqb, length}
+use Rattle.std.specs.Prelude.{◌≡◌, Bool, true, false, ◌&&◌, List, ◌∷◌, ◌++◌, Result, Ok, Err, ℕ, ◌+◌, ◌<◌, eqb, length}
 use Rattle.channel.specs.declared.Code.{Code}
 use Rattle.channel.specs.Valid.{Each}
 use Rattle.places.specs.declared.Place.{Place}
-use Rattle.places.specs.declared.Place.TheVariants.{One, Two, Past}
+use Rattle.places.specs.declared.Place.TheVariants.{One, Two}
 use Rattle.places.specs.declared.Row.{Row}
 use Rattle.places.specs.Places.{place_at}
-use Rattle.model.specs.declared.Walk.{Walk}
-use Rattle.model.specs.declared.Walk.TheVariants.{False, Passed}
 use Rattle.model.specs.Codes.{code_for}
 
 -- the codes make the clause at a place false: the connection has the code that it forbids, or both have it
 unfoldable pub false_at : List Code → Place → Bool
 false_at codes (One i c) = eqb (code_for codes i) c.0
 false_at codes (Two h i c) = eqb (code_for codes h) c.0 && eqb (code_for codes i) c.0
-false_at codes (Past k) = false
 
 -- the place with the number p, from 1, is the first of a list that the codes make false
 pub record FirstFalse (codes : List Code) (l : List Place) (p : ℕ) : Type 0 where
@@ -28,9 +25,9 @@ pub record FirstFalse (codes : List Code) (l : List Place) (p : ℕ) : Type 0 wh
   pub there : false_at codes place ≡ true
 
 -- what a walk over a list brings: the number of the first place that is false; or how many there are, and none is
-abbrev pub Brings : List Code → List Place → Walk → Type 0
-Brings codes l (False p) = FirstFalse codes l p
-Brings codes l (Passed k) = Each (λ x. false_at codes x ≡ false) l × (k ≡ length l)
+abbrev pub Brings : List Code → List Place → Result ℕ ℕ → Type 0
+Brings codes l (Err p) = FirstFalse codes l p
+Brings codes l (Ok k) = Each (λ x. false_at codes x ≡ false) l × (k ≡ length l)
 
 -- every connection's code is below top
 abbrev pub Below : ℕ → ℕ → List Code → Type 0

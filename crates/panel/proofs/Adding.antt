@@ -1,6 +1,6 @@
 -- Why `append` is right: the loads go up where the connection brings a net, and it stands behind the last. Assumes nothing.
 use mathlib.Core.Path.{◌≡◌, sym, ap, ◌∙◌}
-use mathlib.Core.Bool.{Bool, false, ◌&&◌, not, cond}
+use mathlib.Core.Bool.{Bool, ◌&&◌, not, cond}
 use mathlib.Core.Logic.{◌⊎◌, inl, inr, ⊎_elim}
 use mathlib.Core.List.{List, [], ◌∷◌, ◌++◌}
 use Prim.Native.Nat.{ℕ, suc, ◌+◌, ◌≤◌, ◌<◌}
@@ -14,14 +14,14 @@ use Rattle.loads.specs.Edits.{add, edited}
 use Rattle.loads.proofs.Edits.{load_add}
 use Rattle.jobfile.specs.Rows.{tab}
 use Rattle.jobfile.proofs.Decode.{tab-length}
-use Rattle.state.specs.State.{record_at, loads_at, state_bytes, at_most, m_in, connection_in, list_in, load_in, up}
-use Rattle.state.specs.Walks.{in_span, other_over, turn, Turned}
-use Rattle.state.proofs.Walks.{most_low}
+use Rattle.state.specs.declared.Way.TheVariants.{Up}
+use Rattle.state.specs.State.{record_at, loads_at, state_bytes, m_in, connection_in, list_in, load_in, up}
+use Rattle.state.specs.Walks.{in_span, other_over, Turned}
 use Rattle.state.proofs.Lists.{tab-same, tab_more}
 use Rattle.panel.specs.Does.{carried, Relisted}
 use Rattle.panel.proofs.Carried.{carried_add, span_crosses, over_all}
 
-module _ (s s₁ : List ℕ) (m l r k : ℕ) (long : length s ≡ state_bytes) (size : m ≡ m_in s) (few : m < most_connections) (turned : Turned (λ x. in_span l (r + 1) x && not (other_over s m m k x)) false s s₁) where
+module _ (s s₁ : List ℕ) (m l r k : ℕ) (long : length s ≡ state_bytes) (size : m ≡ m_in s) (few : m < most_connections) (turned : Turned (λ x. in_span l (r + 1) x && not (other_over s m m k x)) Up s s₁) where
   abbrev c : Connection
   c = record { left = l; right = r; mark = k }
 
@@ -79,7 +79,7 @@ module _ (s s₁ : List ℕ) (m l r k : ℕ) (long : length s ≡ state_bytes) (
 
   list : list_in written ≡ list_in s ++ (c ∷ [])
   list =
-      let n : m_in written ≡ suc m = ap at_most number ∙ most_low (m + 1) (omega arith) ∙ (let z : m + 1 ≡ suc m = omega arith in z) in
+      let n : m_in written ≡ suc m = omega (arith, number) in
       let z : 0 + m ≡ m = omega arith in
       ap (λ (q : ℕ). tab (connection_in written) q 0) n
       ∙ tab_more (connection_in written) m 0
@@ -94,7 +94,6 @@ module _ (s s₁ : List ℕ) (m l r k : ℕ) (long : length s ≡ state_bytes) (
   new x = (λ i. span_crosses c x i && not (over_all s m size c x i))
 
   loads : (x : ℕ) → 1 ≤ x → load_in written x ≡ carried (load (list_in s) x) (load (list_in s ++ (c ∷ [])) x) (load_in s x)
-  unfolding turn
   loads x h =
       other (loads_at + x) (λ z. omega arith) (inr (omega arith))
       ∙ turned.loads x h

@@ -1,9 +1,8 @@
 -- A load byte that goes as the load goes, and the columns of an edit by who crosses them. Assumes nothing.
 use mathlib.Core.Path.{◌≡◌, refl, sym, ap, ◌∙◌}
 use mathlib.Core.Bool.{Bool, true, false, ◌&&◌, not, cond}
-use mathlib.Core.Logic.{⊎_elim}
 use mathlib.Core.List.{List}
-use Prim.Native.Nat.{ℕ, ◌+◌, ◌<◌}
+use Prim.Native.Nat.{ℕ, ◌+◌, ◌<◌, max}
 use native.Mathlib.Omega.{arith}
 use lib.Dec.{ltb}
 use borrow.Author.Tests.{lt-ltb, le-ltb}
@@ -17,8 +16,8 @@ use Rattle.loads.proofs.Edits.{without-none}
 use Rattle.jobfile.specs.Rows.{tab}
 use Rattle.jobfile.proofs.Decode.{tab-length}
 use Rattle.state.specs.State.{m_in, connection_in, list_in, up, down}
-use Rattle.state.specs.Walks.{larger, in_span, with_mark, other_over}
-use Rattle.state.proofs.Walks.{larger-one, larger_second, span_says, span_is}
+use Rattle.state.specs.Walks.{in_span, with_mark, other_over}
+use Rattle.state.proofs.Walks.{span_says, span_is}
 use Rattle.panel.specs.Does.{carried}
 
 module _ (a b l : ℕ) where
@@ -63,11 +62,11 @@ span_crosses c x =
     (λ w. let s = crosses_says c x w in span_is c.left (c.right + 1) x s.0 (omega (arith, s.1)))
 
 -- the same where the span of a connection that nobody made is cut to no column
-pub cut_crosses : (c : Connection) (x : ℕ) → in_span c.left (larger c.left (c.right + 1)) x ≡ crosses c x
+pub cut_crosses : (c : Connection) (x : ℕ) → in_span c.left (max c.left (c.right + 1)) x ≡ crosses c x
 cut_crosses c x =
     iff
-    (λ w. let s = span_says c.left (larger c.left (c.right + 1)) x w in ⊎_elim (λ (e : larger c.left (c.right + 1) ≡ c.left). absurd (omega (arith, s.0, s.1))) (λ (e : larger c.left (c.right + 1) ≡ c.right + 1). crosses_is c x s.0 (omega (arith, s.1))) (larger-one c.left (c.right + 1)))
-    (λ w. let s = crosses_says c x w in span_is c.left (larger c.left (c.right + 1)) x s.0 (omega (arith, s.1, larger_second c.left (c.right + 1))))
+    (λ w. let s = span_says c.left (max c.left (c.right + 1)) x w in crosses_is c x s.0 (omega (arith, s.0, s.1)))
+    (λ w. let s = crosses_says c x w in span_is c.left (max c.left (c.right + 1)) x s.0 (omega (arith, s.1)))
 
 -- another piece is over the column, by the list
 module _ (s : List ℕ) (m : ℕ) (size : m ≡ m_in s) (c : Connection) (x : ℕ) where

@@ -6,9 +6,12 @@ use Prim.Native.Nat.{ℕ, zero, suc, ◌+◌, ◌-◌, ◌/◌, ◌%◌, ◌≤�
 use native.Mathlib.Omega.{arith}
 use lib.ListN.{length, get_or}
 use lib.Seq.{ext_get_or}
+use Rattle.std.specs.Prelude.{Option, Some, None, Result, Ok, Err}
 use Rattle.facts.proofs.Bools.{below}
+use Rattle.refusals.specs.declared.Refusal.{Refusal}
 use Rattle.refusals.specs.Table.{before, Sound}
-use Rattle.refusals.proofs.Laws.{decided_one, sound_row, nowhere-one}
+use Rattle.refusals.specs.Refusal.{number_of}
+use Rattle.refusals.proofs.Laws.{refused_one, sound_row, nowhere-one}
 use Rattle.channel.specs.Channel.{Connection, connection_at}
 use Rattle.loads.specs.Edits.{Edit, clear, add, drop, move}
 use Rattle.loads.proofs.Rows.{rows_sound}
@@ -17,10 +20,6 @@ use Rattle.jobfile.specs.Rows.{connection_size}
 use Rattle.jobfile.proofs.Decode.{tab-length}
 use Rattle.state.specs.State.{record_at, loads_at, n_in, t_in, m_in, connection_in, list_in, load_in}
 use Rattle.state.proofs.Covers.{list_at}
-use Rattle.panel.specs.declared.Answer.{Answer}
-use Rattle.panel.specs.declared.Answer.TheVariants as answer
-use Rattle.panel.specs.declared.Sign.{Sign}
-use Rattle.panel.specs.declared.Sign.TheVariants as sign
 use Rattle.panel.specs.Does.{Relisted, Becomes, Does, make_rows, Makes, Signs}
 
 -- the state with another list is one state
@@ -74,26 +73,24 @@ becomes_one s (add c) a b f g = relisted_one s a b _ f g
 becomes_one s (drop k) a b f g = relisted_one s a b _ f g
 becomes_one s (move k l r) a b f g = relisted_one s a b _ f g
 
-pub does_one : (s : List ℕ) (e : Edit) (v v' : Answer) (a b : List ℕ) → Does s e v a → Does s e v' b → (v ≡ v') × (a ≡ b)
-does_one s e answer.Done answer.Done a b f g = (refl, becomes_one s e a b f.1 g.1)
-does_one s e answer.Done (answer.Refused num place) a b f g = absurd (f.0 num place g.0.holds)
-does_one s e (answer.Refused num place) answer.Done a b f g = absurd (g.0 num place f.0.holds)
-does_one s e (answer.Refused num place) (answer.Refused num' place') a b f g =
-    let d = decided_one (rows_sound (n_in s) (list_in s) e) f.0 g.0 in
-    ((λ i. answer.Refused (d.0 i) (d.1 i)), f.1 ∙ sym g.1)
+pub does_one : (s : List ℕ) (e : Edit) (v v' : Result Unit Refusal) (a b : List ℕ) → Does s e v a → Does s e v' b → (v ≡ v') × (a ≡ b)
+does_one s e (Ok done) (Ok done') a b f g = (refl, becomes_one s e a b f.1 g.1)
+does_one s e (Ok done) (Err r) a b f g = absurd (f.0 (number_of r.reason) r.place g.0.holds)
+does_one s e (Err r) (Ok done) a b f g = absurd (g.0 (number_of r.reason) r.place f.0.holds)
+does_one s e (Err r) (Err r') a b f g = (ap (λ (x : Refusal). Err x) (refused_one (rows_sound (n_in s) (list_in s) e) r r' f.0 g.0), f.1 ∙ sym g.1)
 
 make_sound : (n t : ℕ) → Sound (make_rows n t)
 unfolding before
 make_sound n t = sound_row 2 (omega arith) nowhere-one
 
-pub makes_one : (n t : ℕ) (s : List ℕ) (v v' : Answer) (a b : List ℕ) → Makes n t s v a → Makes n t s v' b → (v ≡ v') × (a ≡ b)
-makes_one n t s answer.Done answer.Done a b f g = (refl, f.1 ∙ sym g.1)
-makes_one n t s answer.Done (answer.Refused num place) a b f g = absurd (f.0 num place g.0.holds)
-makes_one n t s (answer.Refused num place) answer.Done a b f g = absurd (g.0 num place f.0.holds)
-makes_one n t s (answer.Refused num place) (answer.Refused num' place') a b f g = let d = decided_one (make_sound n t) f.0 g.0 in ((λ i. answer.Refused (d.0 i) (d.1 i)), f.1 ∙ sym g.1)
+pub makes_one : (n t : ℕ) (s : List ℕ) (v v' : Result Unit Refusal) (a b : List ℕ) → Makes n t s v a → Makes n t s v' b → (v ≡ v') × (a ≡ b)
+makes_one n t s (Ok done) (Ok done') a b f g = (refl, f.1 ∙ sym g.1)
+makes_one n t s (Ok done) (Err r) a b f g = absurd (f.0 (number_of r.reason) r.place g.0.holds)
+makes_one n t s (Err r) (Ok done) a b f g = absurd (g.0 (number_of r.reason) r.place f.0.holds)
+makes_one n t s (Err r) (Err r') a b f g = (ap (λ (x : Refusal). Err x) (refused_one (make_sound n t) r r' f.0 g.0), f.1 ∙ sym g.1)
 
-pub signs_one : (s : List ℕ) (v v' : Sign) → Signs s v → Signs s v' → v ≡ v'
-signs_one s sign.Green sign.Green f g = refl
-signs_one s sign.Green (sign.Red r) f g = absurd (red_green (load_in s) (t_in s) (n_in s) r g f)
-signs_one s (sign.Red r) sign.Green f g = absurd (red_green (load_in s) (t_in s) (n_in s) r f g)
-signs_one s (sign.Red r) (sign.Red r') f g = ap sign.Red (red_one (load_in s) (t_in s) (n_in s) r r' f g)
+pub signs_one : (s : List ℕ) (v v' : Option ℕ) → Signs s v → Signs s v' → v ≡ v'
+signs_one s None None f g = refl
+signs_one s None (Some r) f g = absurd (red_green (load_in s) (t_in s) (n_in s) r g f)
+signs_one s (Some r) None f g = absurd (red_green (load_in s) (t_in s) (n_in s) r f g)
+signs_one s (Some r) (Some r') f g = ap Some (red_one (load_in s) (t_in s) (n_in s) r r' f g)

@@ -1,6 +1,6 @@
 -- Why `remove` is right: the loads go down where no other piece is, and the connections behind move down by one. Assumes nothing.
 use mathlib.Core.Path.{◌≡◌, sym, ap, subst, ◌∙◌}
-use mathlib.Core.Bool.{Bool, true, ◌&&◌, not, cond}
+use mathlib.Core.Bool.{Bool, ◌&&◌, not, cond}
 use mathlib.Core.Logic.{◌⊎◌, inl, inr}
 use mathlib.Core.List.{List}
 use Prim.Native.Nat.{ℕ, suc, ◌+◌, ◌-◌, ◌*◌, ◌≤◌, ◌<◌}
@@ -16,15 +16,16 @@ use Rattle.loads.specs.Edits.{drop, edited}
 use Rattle.loads.proofs.Edits.{load_apart}
 use Rattle.jobfile.specs.Rows.{tab, connection_size}
 use Rattle.jobfile.proofs.Decode.{tab-length}
-use Rattle.state.specs.State.{record_at, loads_at, state_bytes, at_most, m_in, connection_in, list_in, load_in, down}
-use Rattle.state.specs.Walks.{in_span, other_over, turn, Turned, Closed}
-use Rattle.state.proofs.Walks.{most_low, turned_same}
+use Rattle.state.specs.declared.Way.TheVariants.{Down}
+use Rattle.state.specs.State.{record_at, loads_at, state_bytes, m_in, connection_in, list_in, load_in, down}
+use Rattle.state.specs.Walks.{in_span, other_over, Turned, Closed}
+use Rattle.state.proofs.Walks.{turned_same}
 use Rattle.state.proofs.Covers.{list_at}
 use Rattle.state.proofs.Lists.{tab-without}
 use Rattle.panel.specs.Does.{carried, Relisted}
 use Rattle.panel.proofs.Carried.{carried_drop, span_crosses, over-list}
 
-module _ (s s₁ s₂ : List ℕ) (m i : ℕ) (long : length s ≡ state_bytes) (size : m ≡ m_in s) (most : m ≤ most_connections) (low : i < m) (turned : Turned (λ x. in_span (connection_in s i).left ((connection_in s i).right + 1) x && not (other_over s m i (connection_in s i).mark x)) true s s₁) (closed : Closed (record_at i) (connection_size * m) s₁ s₂) where
+module _ (s s₁ s₂ : List ℕ) (m i : ℕ) (long : length s ≡ state_bytes) (size : m ≡ m_in s) (most : m ≤ most_connections) (low : i < m) (turned : Turned (λ x. in_span (connection_in s i).left ((connection_in s i).right + 1) x && not (other_over s m i (connection_in s i).mark x)) Down s s₁) (closed : Closed (record_at i) (connection_size * m) s₁ s₂) where
   abbrev shorter : List ℕ
   shorter = set s₂ 2 (m - 1)
 
@@ -62,7 +63,7 @@ module _ (s s₁ s₂ : List ℕ) (m i : ℕ) (long : length s ≡ state_bytes) 
 
   list : list_in shorter ≡ rest
   list =
-      let n : m_in shorter ≡ m - 1 = ap at_most number ∙ most_low (m - 1) (omega arith) in
+      let n : m_in shorter ≡ m - 1 = omega (arith, number) in
       let z : suc (m - 1) ≡ m_in s = omega arith in
       ap (λ (q : ℕ). tab (connection_in shorter) q 0) n
       ∙ tab-without (connection_in shorter) (connection_in s) (m - 1) i 0 (omega arith)
@@ -84,7 +85,6 @@ module _ (s s₁ s₂ : List ℕ) (m i : ℕ) (long : length s ≡ state_bytes) 
   gone x = (λ j. span_crosses c x j && not (over-list s m size c x i j)) ∙ ap (λ (q : Connection). brings rest q x) (sym there)
 
   loads : (x : ℕ) → 1 ≤ x → load_in shorter x ≡ carried (load (list_in s) x) (load rest x) (load_in s x)
-  unfolding turn
   loads x h =
       behind (loads_at + x) (λ z. omega arith) (inr (omega arith))
       ∙ turned.loads x h
@@ -105,7 +105,7 @@ module _ (s s₁ s₂ : List ℕ) (m i : ℕ) (long : length s ≡ state_bytes) 
 
 -- the same, by the columns as the code reads them
 pub dropped : (s s₁ s₂ : List ℕ) (m i l r : ℕ) → length s ≡ state_bytes → m ≡ m_in s → m ≤ most_connections → i < m → l ≡ (connection_in s i).left → r ≡ (connection_in s i).right →
-    Turned (λ x. in_span l (r + 1) x && not (other_over s m i (connection_in s i).mark x)) true s s₁ → Closed (record_at i) (connection_size * m) s₁ s₂ → Relisted s (edited (drop (i + 1)) (list_in s)) (set s₂ 2 (m - 1))
+    Turned (λ x. in_span l (r + 1) x && not (other_over s m i (connection_in s i).mark x)) Down s s₁ → Closed (record_at i) (connection_size * m) s₁ s₂ → Relisted s (edited (drop (i + 1)) (list_in s)) (set s₂ 2 (m - 1))
 unfolding edited
 dropped s s₁ s₂ m i l r long size most low el er turned closed =
     let z : i ≡ i + 1 - 1 = omega arith in

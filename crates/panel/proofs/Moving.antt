@@ -1,9 +1,9 @@
 -- Why `replace` is right: the loads go down where the connection is left and up where it comes, unless another piece is there, and its columns are others.
 -- Assumes nothing.
 use mathlib.Core.Path.{◌≡◌, refl, sym, ap, subst, ◌∙◌}
-use mathlib.Core.Bool.{Bool, true, false, ◌&&◌, not, cond}
+use mathlib.Core.Bool.{Bool, ◌&&◌, not, cond}
 use mathlib.Core.List.{List}
-use Prim.Native.Nat.{ℕ, ◌+◌, ◌-◌, ◌≤◌, ◌<◌}
+use Prim.Native.Nat.{ℕ, ◌+◌, ◌-◌, ◌≤◌, ◌<◌, max}
 use native.Mathlib.Omega.{arith}
 use lib.ListN.{length, get_or, set, length-set}
 use lib.Seq.{get_or-set_same, get_or-set_other}
@@ -17,9 +17,10 @@ use Rattle.loads.proofs.Covers.{covered-marked}
 use Rattle.loads.proofs.Edits.{load_apart, load_set}
 use Rattle.jobfile.specs.Rows.{tab}
 use Rattle.jobfile.proofs.Decode.{tab-length}
-use Rattle.state.specs.State.{record_at, loads_at, state_bytes, at_most, m_in, connection_in, list_in, load_in, up, down}
-use Rattle.state.specs.Walks.{larger, in_span, other_over, turn, Turned}
-use Rattle.state.proofs.Walks.{most_low, turned_same}
+use Rattle.state.specs.declared.Way.TheVariants.{Up, Down}
+use Rattle.state.specs.State.{record_at, loads_at, state_bytes, m_in, connection_in, list_in, load_in, up, down}
+use Rattle.state.specs.Walks.{in_span, other_over, Turned}
+use Rattle.state.proofs.Walks.{turned_same}
 use Rattle.state.proofs.Covers.{list_at}
 use Rattle.state.proofs.Lists.{tab-set}
 use Rattle.state.proofs.Outside.{over-same}
@@ -31,8 +32,8 @@ abbrev pub beside : ℕ → ℕ → ℕ → ℕ → ℕ → Bool
 beside a e b f x = in_span a e x && not (in_span b f x)
 
 module _ (s s₁ s₂ : List ℕ) (m i l r : ℕ) (long : length s ≡ state_bytes) (size : m ≡ m_in s) (most : m ≤ most_connections) (low : i < m)
-    (left : Turned (λ x. beside (connection_in s i).left (larger (connection_in s i).left ((connection_in s i).right + 1)) l (r + 1) x && not (other_over s m i (connection_in s i).mark x)) true s s₁)
-    (came : Turned (λ x. beside l (r + 1) (connection_in s i).left (larger (connection_in s i).left ((connection_in s i).right + 1)) x && not (other_over s₁ m i (connection_in s i).mark x)) false s₁ s₂) where
+    (left : Turned (λ x. beside (connection_in s i).left (max (connection_in s i).left ((connection_in s i).right + 1)) l (r + 1) x && not (other_over s m i (connection_in s i).mark x)) Down s s₁)
+    (came : Turned (λ x. beside l (r + 1) (connection_in s i).left (max (connection_in s i).left ((connection_in s i).right + 1)) x && not (other_over s₁ m i (connection_in s i).mark x)) Up s₁ s₂) where
   abbrev c : Connection
   c = connection_in s i
 
@@ -91,7 +92,7 @@ module _ (s s₁ s₂ : List ℕ) (m i l r : ℕ) (long : length s ≡ state_byt
 
   list : list_in written ≡ set (list_in s) i to
   list =
-      let n : m_in written ≡ m = ap at_most number ∙ most_low m most in
+      let n : m_in written ≡ m = omega (arith, number, most) in
       let z : 0 + i ≡ i = omega arith in
       ap (λ (q : ℕ). tab (connection_in written) q 0) n
       ∙ tab-set (connection_in written) (connection_in s) m i 0 low (λ j a b e. others j (omega arith) (λ y. e (omega arith)))
@@ -102,10 +103,10 @@ module _ (s s₁ s₂ : List ℕ) (m i l r : ℕ) (long : length s ≡ state_byt
     abbrev over : Bool
     over = covered rest c x
 
-    gone : (beside c.left (larger c.left (c.right + 1)) l (r + 1) x && not (other_over s m i c.mark x)) ≡ ((crosses c x && not (crosses to x)) && not over)
+    gone : (beside c.left (max c.left (c.right + 1)) l (r + 1) x && not (other_over s m i c.mark x)) ≡ ((crosses c x && not (crosses to x)) && not over)
     gone = (λ j. (cut_crosses c x j && not (span_crosses to x j)) && not (over-list s m size c x i j))
 
-    new : (beside l (r + 1) c.left (larger c.left (c.right + 1)) x && not (other_over s₁ m i c.mark x)) ≡ ((crosses to x && not (crosses c x)) && not over)
+    new : (beside l (r + 1) c.left (max c.left (c.right + 1)) x && not (other_over s₁ m i c.mark x)) ≡ ((crosses to x && not (crosses c x)) && not over)
     new = (λ j. (span_crosses to x j && not (cut_crosses c x j)) && not ((over-same s s₁ m most left.others i c.mark x ∙ over-list s m size c x i) j))
 
     was : load (list_in s) x ≡ load rest x + bit_of (crosses c x && not over)
@@ -117,7 +118,6 @@ module _ (s s₁ s₂ : List ℕ) (m i l r : ℕ) (long : length s ≡ state_byt
     is = load_set i (list_in s) to x inside ∙ ap (λ (b : Bool). load rest x + bit_of (crosses to x && not b)) (covered-marked rest to c x refl)
 
     loads : 1 ≤ x → load_in written x ≡ carried (load (list_in s) x) (load (set (list_in s) i to) x) (load_in s x)
-    unfolding turn
     loads h =
         let one : load_in s₁ x ≡ cond ((crosses c x && not (crosses to x)) && not over) (down (load_in s x)) (load_in s x) = left.loads x h ∙ ap (λ (b : Bool). cond b (down (load_in s x)) (load_in s x)) gone in
         other (loads_at + x) (λ z. omega arith) (λ z. omega arith) (λ z. omega arith)
@@ -141,9 +141,9 @@ module _ (s s₁ s₂ : List ℕ) (m i l r : ℕ) (long : length s ≡ state_byt
   }
 
 -- the same, by the columns as the code reads them
-pub shifted : (s s₁ s₂ : List ℕ) (m i l r from to : ℕ) → length s ≡ state_bytes → m ≡ m_in s → m ≤ most_connections → i < m → from ≡ (connection_in s i).left → to ≡ larger (connection_in s i).left ((connection_in s i).right + 1) →
-    Turned (λ x. beside from to l (r + 1) x && not (other_over s m i (connection_in s i).mark x)) true s s₁ →
-    Turned (λ x. beside l (r + 1) from to x && not (other_over s₁ m i (connection_in s i).mark x)) false s₁ s₂ → Relisted s (edited (move (i + 1) l r) (list_in s)) (set (set (set s₂ (record_at i) l) (record_at i + 1) r) 2 m)
+pub shifted : (s s₁ s₂ : List ℕ) (m i l r from to : ℕ) → length s ≡ state_bytes → m ≡ m_in s → m ≤ most_connections → i < m → from ≡ (connection_in s i).left → to ≡ max (connection_in s i).left ((connection_in s i).right + 1) →
+    Turned (λ x. beside from to l (r + 1) x && not (other_over s m i (connection_in s i).mark x)) Down s s₁ →
+    Turned (λ x. beside l (r + 1) from to x && not (other_over s₁ m i (connection_in s i).mark x)) Up s₁ s₂ → Relisted s (edited (move (i + 1) l r) (list_in s)) (set (set (set s₂ (record_at i) l) (record_at i + 1) r) 2 m)
 unfolding edited
 shifted s s₁ s₂ m i l r from to long size most low ef et left came =
     let z : i ≡ i + 1 - 1 = omega arith in

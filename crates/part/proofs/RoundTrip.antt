@@ -9,17 +9,17 @@ use native.Mathlib.Decide.{dec_le, ℕ_discrete}
 use lib.ListN.{length, take}
 use lib.Seq.{take-append_seam}
 use denote.Ref.{Bor}
+use Rattle.std.specs.Prelude.{Result, Ok}
 use Rattle.facts.proofs.Bools.{sure}
 use Rattle.refusals.specs.Table.{Passes}
+use Rattle.refusals.specs.declared.Refusal.{Refusal}
 use Rattle.text.proofs.Writing.{front}
 use Rattle.channel.specs.Valid.{TrackRule, ConnectionRule, Valid}
 use Rattle.jobfile.specs.Rows.{connection_read, ConnectionKept}
 use Rattle.jobfile.specs.Reads.{Reads, Hands}
-use Rattle.jobfile.specs.declared.Read.{Read}
-use Rattle.jobfile.specs.declared.Read.TheVariants as read
+use Rattle.jobfile.specs.declared.file.Sizes.{Sizes}
 use Rattle.jobfile.proofs.Decode.{tab-length, tab_each}
 use Rattle.jobfile.proofs.Exact.{round_trip, hands_job}
-use Rattle.part.specs.declared.Written.TheVariants as variant
 use Rattle.part.specs.Part.{Part, tracks_in, track_of, job_of_part, PartRule}
 use Rattle.part.specs.P1.{p1}
 use Rattle.part.specs.Writes.{count_of, connections_of, Takes, file_of, part_rows, Writes}
@@ -73,7 +73,7 @@ module _ (p : Part) (bytes : List ℕ) (k : ℕ) (passes : Passes (part_rows p b
     connections = tab_each _ (ConnectionRule p.columns) (count_of bytes) 0 (λ j l m. subst (λ z. ConnectionRule p.columns (connection_read bytes z)) (zero-add (3 * j)) (passes_kept j (omega arith)));
   }
 
-module _ (p : Part) (rule : PartRule p) (bytes : List ℕ) (k : ℕ) (old new : List ℕ) (size : ℕ) (w : Writes p bytes k old (variant.File size) new) where
+module _ (p : Part) (rule : PartRule p) (bytes : List ℕ) (k : ℕ) (old new : List ℕ) (size : ℕ) (w : Writes p bytes k old (Ok size) new) where
   part_passes : Passes (part_rows p bytes k)
   part_passes x q g = w.0 x q (inl g)
 
@@ -88,20 +88,20 @@ module _ (p : Part) (rule : PartRule p) (bytes : List ℕ) (k : ℕ) (old new : 
       let e : size ≡ length (file_of p bytes k) = w.1.next ∙ zero-add (length (file_of p bytes k)) in
       (λ i. take (e i) (front n w.1 i)) ∙ take-append_seam (file_of p bytes k) _
 
-  pub reads_back : (r : Read) → Reads (take size new) r → r ≡ read.Job p.columns (tracks_in p.table) (count_of bytes) k
+  pub reads_back : (r : Result Sizes Refusal) → Reads (take size new) r → r ≡ Ok (record { columns = p.columns; tracks = tracks_in p.table; connections = count_of bytes; limit = k })
   reads_back r g =
       let v = part_valid p bytes k part_passes rule in
       let t = tab-length (track_of p.table) (tracks_in p.table) 0 in
       let m = tab-length (λ i. connection_read bytes (3 * i)) (count_of bytes) 0 in
-      round_trip (job_of_part p (connections_of bytes) k) v r (subst (λ f. Reads f r) written-file g) ∙ (λ i. read.Job p.columns (t i) (m i) k)
+      round_trip (job_of_part p (connections_of bytes) k) v r (subst (λ f. Reads f r) written-file g) ∙ (λ i. Ok (record { columns = p.columns; tracks = t i; connections = m i; limit = k }))
 
   -- and the part of it that holds the connections is the bytes that were given
   pub hands_back : (f part : Bor (List ℕ)) → f.now ≡ take size new → Hands f part → part.now ≡ bytes
   hands_back f part e h = hands_job f part h (job_of_part p (connections_of bytes) k) (record { valid = part_valid p bytes k part_passes rule; file = e ∙ written-file }) ∙ connections_bytes bytes (passes_takes p bytes k part_passes).whole
 
 -- of P1: N = 30, T = 8
-pub p1_back : (bytes : List ℕ) (k : ℕ) (old new : List ℕ) (size : ℕ) → Writes p1 bytes k old (variant.File size) new → (r : Read) → Reads (take size new) r → r ≡ read.Job 30 8 (count_of bytes) k
+pub p1_back : (bytes : List ℕ) (k : ℕ) (old new : List ℕ) (size : ℕ) → Writes p1 bytes k old (Ok size) new → (r : Result Sizes Refusal) → Reads (take size new) r → r ≡ Ok (record { columns = 30; tracks = 8; connections = count_of bytes; limit = k })
 p1_back bytes k old new size w = reads_back p1 p1_rule_lem bytes k old new size w
 
-pub p1_connections_back : (bytes : List ℕ) (k : ℕ) (old new : List ℕ) (size : ℕ) → Writes p1 bytes k old (variant.File size) new → (f part : Bor (List ℕ)) → f.now ≡ take size new → Hands f part → part.now ≡ bytes
+pub p1_connections_back : (bytes : List ℕ) (k : ℕ) (old new : List ℕ) (size : ℕ) → Writes p1 bytes k old (Ok size) new → (f part : Bor (List ℕ)) → f.now ≡ take size new → Hands f part → part.now ≡ bytes
 p1_connections_back bytes k old new size w = hands_back p1 p1_rule_lem bytes k old new size w

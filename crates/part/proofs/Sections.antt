@@ -7,8 +7,9 @@ use native.Mathlib.Numerals.{add-one}
 use native.Mathlib.Omega.{arith}
 use lib.ListN.{length, take, drop, length-append}
 use lib.Seq.{take-add, take-length}
-use Rattle.text.specs.Text.{Wrote}
-use Rattle.text.proofs.Writing.{then}
+use Rattle.text.specs.declared.Writer.{Writer}
+use Rattle.text.specs.Text.{Puts}
+use Rattle.text.proofs.Writing.{◌followed_by◌}
 use Rattle.channel.specs.Limits.{most_tracks, most_segments}
 use Rattle.channel.specs.Channel.{Connection}
 use Rattle.jobfile.specs.File.{track_bytes, connection_bytes, joined, trailer_bytes, encode}
@@ -49,10 +50,9 @@ module _ (b : Table) (cut : Cut b) where
   section_long = records_long (tracks_in b) (omega arith) ∙ ap (λ z. 2 * tracks_in b + z) cut.last
 
   -- one record more is written
-  pub wrote_record : (old buf new : List ℕ) (t at r flag : ℕ) → flag ≡ flag_of b t → Wrote old 0 (joined track_bytes (tab (track_of b) t 0)) buf at → Wrote buf at (track_bytes (record { flag = flag; ends = ends_of b t })) new r
-      → Wrote old 0 (joined track_bytes (tab (track_of b) (t + 1) 0)) new r
-  wrote_record old buf new t at r flag e w v =
-      subst (λ x. Wrote old 0 x new r) (sym (all_more track_bytes (track_of b) t)) (then w (subst (λ x. Wrote buf at (track_bytes (record { flag = x; ends = ends_of b t })) new r) e v))
+  pub puts_record : {old buf new : Writer} {flag : ℕ} (t : ℕ) → flag ≡ flag_of b t → Puts old (joined track_bytes (tab (track_of b) t 0)) buf → Puts buf (track_bytes (record { flag = flag; ends = ends_of b t })) new
+      → Puts old (joined track_bytes (tab (track_of b) (t + 1) 0)) new
+  puts_record t e w v = rw (all_more track_bytes (track_of b) t, sym e) (w followed_by v)
 
   starts_few : (t : ℕ) → t ≤ tracks_in b → start_of b t ≤ most_segments * t
   starts_few zero l = omega (arith, cut.first)
@@ -98,8 +98,8 @@ module _ (p : Part) (rule : PartRule p) (bytes : List ℕ) (k : ℕ) (whole : 3 
       omega (arith, ap length file-text, length-append (ts ++ bytes) end, length-append ts bytes, section_long p.table rule.cut)
 
   -- it is written, section after section
-  pub wrote_file : {a b c d : List ℕ} {r s u : ℕ} → Wrote a 0 (joined track_bytes (tracks_of p.table)) b r → Wrote b r bytes c s → Wrote c s (trailer_bytes s (length bytes) p.columns (tracks_in p.table) (count_of bytes) k) d u → Wrote a 0 (file_of p bytes k) d u
-  wrote_file {a} {d = d} {s = s} {u = u} w v x =
+  pub puts_file : {a b c d : Writer} → a.at ≡ 0 → Puts a (joined track_bytes (tracks_of p.table)) b → Puts b bytes c → Puts c (trailer_bytes c.at (length bytes) p.columns (tracks_in p.table) (count_of bytes) k) d → Puts a (file_of p bytes k) d
+  puts_file {a} {c = c} {d = d} first w v x =
       let ts : List ℕ = joined track_bytes (tracks_of p.table) in
-      let e : s ≡ length ts + length bytes = omega (arith, w.next, v.next) in
-      subst (λ z. Wrote a 0 z d u) (ap (λ z. (ts ++ bytes) ++ trailer_bytes z (length bytes) p.columns (tracks_in p.table) (count_of bytes) k) e ∙ sym file-text) (then (then w v) x)
+      let e : c.at ≡ length ts + length bytes = omega (arith, w.wrote.next, v.wrote.next) in
+      rw file-text (w followed_by v followed_by subst (λ z. Puts c (trailer_bytes z (length bytes) p.columns (tracks_in p.table) (count_of bytes) k) d) e x)

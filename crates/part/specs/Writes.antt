@@ -1,15 +1,20 @@
 -- Document 01, "House part P1" and rows 2, 5 and 9 of "Replies by number": what the writer of a part's job answers, and what the lent buffer then holds.
 -- Assumes nothing: these are definitions.
-use Rattle.std.specs.Prelude.{◌≡◌, List, ℕ, ◌*◌, ◌/◌, length}
-use Rattle.refusals.specs.Table.{Rows, row, ◌or◌, nowhere, FirstBroken, Refuses, Passes, room_row}
+use Rattle.std.specs.Prelude.{◌≡◌, List, Result, Ok, Err, ℕ, ◌*◌, ◌/◌, length}
+use Rattle.refusals.specs.Table.{Rows, row, ◌or◌, nowhere, FirstBroken, Passes, room_row}
+use Rattle.refusals.specs.declared.Refusal.{Refusal}
+use Rattle.refusals.specs.Refusal.{RefusedBy}
 use Rattle.text.specs.Text.{Wrote}
 use Rattle.channel.specs.Limits.{Limits}
 use Rattle.channel.specs.Channel.{Connection}
 use Rattle.jobfile.specs.File.{encode}
 use Rattle.jobfile.specs.Rows.{tab, connection_size, connection_read, ConnectionKept}
-use Rattle.part.specs.declared.Written.{Written}
-use Rattle.part.specs.declared.Written.TheVariants as variant
-use Rattle.part.specs.Part.{Part, tracks_in, job_of_part}
+use Rattle.part.specs.declared.held.Part.{Part as Held}
+use Rattle.part.specs.Part.{Part, part_of, tracks_in, job_of_part}
+
+-- the part that code holds
+abbrev pub told : Held → Part
+told p = part_of p.columns p.plain p.starts.now p.ends.now
 
 -- how many connections bytes tell, three bytes each; and the connections
 abbrev pub count_of : List ℕ → ℕ
@@ -35,6 +40,6 @@ abbrev pub writer_rows : Part → List ℕ → ℕ → ℕ → Rows
 writer_rows p bytes k lent = part_rows p bytes k or room_row (length (file_of p bytes k)) lent
 
 -- document 01's number and values for each answer of the writer: a file is written from the front and the rest stays; a refusal changes nothing
-abbrev pub Writes : Part → List ℕ → ℕ → List ℕ → Written → List ℕ → Type 0
-Writes p bytes k old (variant.File size) new = Passes (writer_rows p bytes k (length old)) × Wrote old 0 (file_of p bytes k) new size
-Writes p bytes k old (variant.Refused num place) new = Refuses (writer_rows p bytes k (length old)) num place × (new ≡ old)
+abbrev pub Writes : Part → List ℕ → ℕ → List ℕ → Result ℕ Refusal → List ℕ → Type 0
+Writes p bytes k old (Ok size) new = Passes (writer_rows p bytes k (length old)) × Wrote old 0 (file_of p bytes k) new size
+Writes p bytes k old (Err r) new = RefusedBy (writer_rows p bytes k (length old)) r × (new ≡ old)

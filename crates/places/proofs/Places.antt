@@ -5,7 +5,8 @@ use mathlib.Core.List.{[], ◌∷◌, ◌++◌, map}
 use Prim.Native.Nat.{ℕ, zero, suc, ◌+◌, ◌-◌, ◌^◌, ◌≤◌, ◌<◌}
 use native.Mathlib.Omega.{arith}
 use lib.Dec.{leb, ltb}
-use lib.ListN.{length, get_or, length-map, get_or-map}
+use lib.ListN.{length, get_or, length-map}
+use Rattle.std.proofs.lemmas.List.{get_or-map}
 use borrow.Author.Tests.{lt-ltb, le-ltb, le-leb, lt-leb}
 use Rattle.channel.specs.Limits.{most_connections, most_codes}
 use Rattle.channel.proofs.Validity.{each_at}
@@ -13,7 +14,6 @@ use Rattle.clauses.specs.Clauses.{Grid, join_to, only, bar, width_of, beyond, ba
 use Rattle.clauses.proofs.Joins.{join_same, join_front, join_sum, join_empty, join_cut, map_join, map-only}
 use Rattle.clauses.proofs.Width.{bits_for_is}
 use Rattle.places.specs.declared.Place.{Place}
-use Rattle.places.specs.declared.Place.TheVariants.{Past}
 use Rattle.places.specs.Places.{clause_at, forbidden, place_at, row_to, row_of, row_places, stage_places, places_of, Hit, Within}
 use Rattle.places.proofs.Rows.{all_places}
 
@@ -82,8 +82,7 @@ module _ (g : Grid) where
 
   -- clause n is the one at place n
   pub clause_at_lem : (n : ℕ) (x : Place) → Hit (places_of g) n x → get_or (clauses_of g) n [] ≡ clause_at w x
-  unfolding clause_at
-  clause_at_lem n x h = ap (λ l. get_or l n []) (sym map_places) ∙ get_or-map (clause_at w) (places_of g) n (Past 0) ∙ ap (clause_at w) h.is
+  clause_at_lem n x h = ap (λ l. get_or l n []) (sym map_places) ∙ get_or-map (clause_at w) (places_of g) n x [] h.inside ∙ ap (clause_at w) h.is
 
   -- a place has connections and a code within the limits
   module _ (few-connections : m ≤ most_connections) (few_codes : 2 ^ w ≤ most_codes) where
@@ -94,4 +93,4 @@ module _ (g : Grid) where
     within-at (suc (suc h)) i c l k e = (omega arith, omega arith, omega arith)
 
     pub place-within : (n : ℕ) (x : Place) → Hit (places_of g) n x → Within x
-    place-within n x h = subst Within h.is (each_at Within (places_of g) (Past 0) (all_places g Within within-at) n h.inside)
+    place-within n x h = subst Within h.is (each_at Within (places_of g) x (all_places g Within within-at) n h.inside)

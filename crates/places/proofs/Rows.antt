@@ -1,12 +1,10 @@
 -- Where the rows stand in the list of all places: what is before a row, the row, and what is behind it. Assumes nothing.
 use mathlib.Core.Path.{◌≡◌, refl, sym, ap, ◌∙◌}
-use mathlib.Core.Logic.{⊎_elim}
 use mathlib.Core.Bool.{Bool, true, false, ◌&&◌, not}
 use mathlib.Core.List.{List, [], ◌∷◌, ◌++◌, append_assoc, append-nil}
-use Prim.Native.Nat.{ℕ, zero, suc, ◌+◌, ◌-◌, ◌*◌, ◌^◌, ◌≤◌, ◌<◌}
+use Prim.Native.Nat.{ℕ, zero, suc, ◌+◌, ◌-◌, ◌*◌, ◌^◌, ◌≤◌, ◌<◌, min}
 use native.Mathlib.Omega.{arith}
 use native.Mathlib.Decide.{dec_lt}
-use native.Mathlib.Nat.{eq-or-lt_of_le}
 use native.Mathlib.Numerals.{add-one}
 use lib.Dec.{leb}
 use lib.ListN.{length, length-append}
@@ -16,14 +14,13 @@ use Rattle.channel.specs.Limits.{most_tracks, most_connections, most_codes}
 use Rattle.channel.specs.Label.{code}
 use Rattle.channel.specs.Valid.{Each}
 use Rattle.clauses.specs.Clauses.{Grid, bits_for, join_to, only, width_of, meets}
-use Rattle.clauses.proofs.Joins.{length_join, join_most, only-length, only-true, only_most, join_split, join_empty, join_cut, join_of, only_of}
+use Rattle.clauses.proofs.Joins.{length_join, join_most, only-length, only-true, only_most, join_split, join_cut, join_of, only_of}
 use Rattle.places.specs.declared.Place.{Place}
 use Rattle.places.specs.declared.Place.TheVariants.{One, Two}
 use Rattle.places.specs.declared.Row.{Row}
 use Rattle.places.specs.Places.{forbidden, place_at, row_to, row_of, row_places, stage_places, places_of, places_before}
-use Rattle.places.specs.Table.{shut, cross, table_grid, due, forbidden_in, table_row, many_clauses}
-use Rattle.places.specs.Rows.{OnWalk}
 use Rattle.places.proofs.Sizes.{few_codes}
+use Rattle.places.specs.Table.{shut, cross, table_grid, due, forbidden_in, table_row, many_clauses}
 
 -- the codes that are forbidden in a row, stage by stage
 module _ (t : ℕ) (barred : ℕ → ℕ → Bool) (meets : ℕ → ℕ → ℕ → Bool) (i c : ℕ) where
@@ -65,8 +62,12 @@ module _ (runs : List ℕ) (t : ℕ) (row : Row) where
       let x = place_at row.stage row.i in let e : r + (n - r) ≡ n = omega arith in
       sym (join_cut r (n - r) (λ c. only (forbidden_in runs t row c) (x c)) (λ k. ap (λ v. only v (x (r + k))) (h (r + k) (omega arith)))) ∙ ap (table_row runs t row) e
 
-  pub row_reach : (n : ℕ) → (row.stage ≡ 0 → ⊥) → t ≤ n → table_row runs t row t ≡ table_row runs t row n
-  row_reach n z l = row_cut t n l (λ c. forbidden_high t (shut runs) (due runs) row.i c row.stage z)
+  pub row_reach : (r n : ℕ) → (row.stage ≡ 0 → ⊥) → r ≡ min t n → table_row runs t row r ≡ table_row runs t row n
+  row_reach r n z e = go (dec_lt n t)
+    where
+      go : Dec (n < t) → table_row runs t row r ≡ table_row runs t row n
+      go (yes l) = let q : r ≡ n = omega arith in ap (table_row runs t row) q
+      go (no l) = row_cut r n (omega arith) (λ c k. forbidden_high t (shut runs) (due runs) row.i c row.stage z (omega arith))
 
   not_behind : (h c : ℕ) → row.i ≤ h → due runs h row.i c ≡ false
   unfolding due
@@ -96,28 +97,14 @@ module _ (g : Grid) where
   unfolding places_before join_to
   before_next s i = ap (λ k. join_to s (stage_places g) ++ join_to k (in_stage s)) (add-one i) ∙ sym (append_assoc (join_to s (stage_places g)) (join_to i (in_stage s)) (in_stage s i))
 
-  stage_end : (s : ℕ) → places_before g (row_of s m) ≡ join_to (suc s) (stage_places g)
+  pub before_wrap : (s : ℕ) → places_before g (row_of (s + 1) 0) ≡ places_before g (row_of s m)
   unfolding places_before join_to stage_places
-  stage_end s = refl
-
-  pub before_wrap : (s i : ℕ) → i + 1 ≡ m → places_before g (row_of (s + 1) 0) ≡ places_before g (row_of s i) ++ in_stage s i
-  unfolding places_before join_to
-  before_wrap s i e = append-nil (join_to (s + 1) (stage_places g)) ∙ ap (λ k. join_to k (stage_places g)) (add-one s) ∙ sym (stage_end s) ∙ ap (λ k. places_before g (row_of s k)) (sym e) ∙ before_next s i
+  before_wrap s = append-nil (join_to (s + 1) (stage_places g)) ∙ ap (λ k. join_to k (stage_places g)) (add-one s)
 
   -- all rows are before the end
-  no_places : (n : ℕ) → m ≡ 0 → join_to n (stage_places g) ≡ []
-  unfolding stage_places join_to
-  no_places n e = join_empty n (stage_places g) (λ s l. ap (λ k. join_to k (in_stage s)) e)
-
-  pub before_end : (row : Row) → OnWalk m row → m ≤ row.i → places_before g row ≡ places_of g
-  unfolding places_of
-  before_end row o l =
-      let k = o.inside in
-      let e : row.i ≡ m = omega arith in
-      ap (λ k. places_before g (row_of row.stage k)) e ∙ stage_end row.stage ∙ ⊎_elim
-      (λ (z : m ≡ 0). no_places (suc row.stage) z ∙ sym (no_places (suc (suc m)) z))
-      (λ (z : row.stage ≡ m + 1). ap (λ k. join_to (suc k) (stage_places g)) (z ∙ add-one m))
-      (o.end e)
+  pub before_end : (s : ℕ) → s ≡ m + 2 → places_before g (row_of s 0) ≡ places_of g
+  unfolding places_before places_of join_to
+  before_end s e = let f : s ≡ suc (suc m) = omega arith in append-nil (join_to s (stage_places g)) ∙ ap (λ k. join_to k (stage_places g)) f
 
   -- a row with what is before it and behind it
   module _ (row : Row) (on-stage : row.stage < m + 2) (in-stage : row.i < m) where
@@ -151,16 +138,11 @@ module _ (g : Grid) where
       let y = join_most (stage_places g) (most_connections * most_codes) (suc (suc m)) (λ s. let x = join_most (in_stage s) most_codes m (λ i. let z = row_most s i in omega arith) in omega arith) in
       omega arith
 
--- nor before a row, nor before the end
-pub before_few : (runs : List ℕ) (t m : ℕ) (row : Row) → t ≤ most_tracks → m ≤ most_connections → OnWalk m row → length (places_before (table_grid runs t m) row) ≤ many_clauses
-before_few runs t m row a b o = go (dec_lt row.i m)
-  where
-    few : length (places_of (table_grid runs t m)) ≤ many_clauses
-    few = places_few (table_grid runs t m) (few_codes t (omega arith)) b
-
-    go : Dec (row.i < m) → length (places_before (table_grid runs t m) row) ≤ many_clauses
-    go (yes l) = omega (arith, few, row_room_lem (table_grid runs t m) row o.stage l)
-    go (no l) = omega (arith, few, ap length (before_end (table_grid runs t m) row o (omega arith)))
+-- nor before a row and in it
+pub before_few : (runs : List ℕ) (t m : ℕ) (row : Row) → t ≤ most_tracks → m ≤ most_connections → row.stage < m + 2 → row.i < m → length (places_before (table_grid runs t m) row) + length (row_places (table_grid runs t m) row) ≤ many_clauses
+before_few runs t m row a b u v =
+    let few = places_few (table_grid runs t m) (few_codes t (omega arith)) b in
+    omega (arith, few, row_room_lem (table_grid runs t m) row u v)
 
 -- the rows of the table's grid, and how many places they have
 module _ (runs : List ℕ) (t : ℕ) (row : Row) where
@@ -194,10 +176,6 @@ module _ (runs : List ℕ) (t : ℕ) (row : Row) where
       go : length (table_row runs t row n) ≡ n - t → Dec (n < t) → length (table_row runs t row (n + 1)) ≡ suc n - t
       go h (yes l) = omega (arith, next false (lt-leb t n l))
       go h (no l) = omega (arith, next true (le-leb t n (omega arith)))
-
-  -- what lies behind a whole row is not in it
-  pub row_inside : (c k n : ℕ) → c ≤ 2 ^ bits_for t → length (table_row runs t row c) + k ≡ n → n < length (table_row runs t row (2 ^ bits_for t)) → c < 2 ^ bits_for t
-  row_inside c k n l e h = ⊎_elim (λ (q : c ≡ 2 ^ bits_for t). let z = ap (λ x. length (table_row runs t row x)) q in absurd (omega arith)) (λ (q : c < 2 ^ bits_for t). q) (eq-or-lt_of_le l)
 
   -- the place of a code that is forbidden in a row: behind those of the rows before it, and of the codes below it
   pub place-split : (m : ℕ) → row.stage < m + 2 → row.i < m → (c : ℕ) → c < 2 ^ bits_for t → forbidden_in runs t row c ≡ true → (rest : List Place) × (places_of (table_grid runs t m) ≡ (places_before (table_grid runs t m) row ++ table_row runs t row c) ++ (place_at row.stage row.i c ∷ rest))

@@ -1,19 +1,18 @@
 -- Stepping stones: document 01, "Clause lines": where the clauses of a list stand, as places instead of literals, row after row; and the place with a number.
 -- `map_places` (proofs/Places.antt) says that the clauses at these places are the clause list. Assumes nothing: these are definitions.
-use Rattle.std.specs.Prelude.{◌≡◌, Bool, ◌&&◌, List, [], ◌++◌, ℕ, zero, suc, ◌+◌, ◌^◌, ◌≤◌, ◌<◌, leb, ltb, length, get_or}
+use Rattle.std.specs.Prelude.{◌≡◌, Bool, ◌&&◌, List, ◌++◌, Result, Ok, Err, ℕ, zero, suc, ◌+◌, ◌^◌, ◌≤◌, ◌<◌, leb, ltb, length, get_or}
 use Rattle.dimacs.specs.Clause.{Clause}
 use Rattle.channel.specs.Limits.{most_connections, most_bits, most_codes}
 use Rattle.channel.specs.Label.{code}
 use Rattle.clauses.specs.Clauses.{Grid, join_to, only, bar, width_of, meets, bits_for}
 use Rattle.places.specs.declared.Place.{Place}
-use Rattle.places.specs.declared.Place.TheVariants.{One, Two, Past}
+use Rattle.places.specs.declared.Place.TheVariants.{One, Two}
 use Rattle.places.specs.declared.Row.{Row}
 
 -- the clause at a place: one connection and a code, or two connections and a code
 unfoldable pub clause_at : ℕ → Place → Clause
 clause_at w (One i c) = bar w i c.0
 clause_at w (Two h i c) = bar w h c.0 ++ bar w i c.0
-clause_at w (Past k) = []
 
 -- a row is a stage and a connection i, counted from 0: stage 0 for group 1, stage 1 for group 2, and stage h + 2 for connection h in group 3, with each i
 -- behind it. A code is forbidden in a row that has a clause for it: no track has the code; its track is barred for i; h and i meet there
@@ -55,13 +54,12 @@ module _ (g : Grid) where
 -- x is entry n of the list, counted from 0
 pub record Hit (l : List Place) (n : ℕ) (x : Place) : Type 0 where
   pub inside : n < length l
-  pub is : get_or l n (Past 0) ≡ x
+  pub is : get_or l n x ≡ x
 
--- r is entry n of the list; or n lies k behind the list's end
-abbrev pub FoundAt : List Place → ℕ → Place → Type 0
-FoundAt l n (One i c) = Hit l n (One i c)
-FoundAt l n (Two h i c) = Hit l n (Two h i c)
-FoundAt l n (Past k) = length l + k ≡ n
+-- the place that is found is entry n of the list; or n lies k behind the list's end
+abbrev pub FoundAt : List Place → ℕ → Result Place ℕ → Type 0
+FoundAt l n (Ok x) = Hit l n x
+FoundAt l n (Err k) = length l + k ≡ n
 
 -- w and 2 ^ w for t tracks
 pub record Sized (t w top : ℕ) : Type 0 where
@@ -75,4 +73,3 @@ pub record Sized (t w top : ℕ) : Type 0 where
 abbrev pub Within : Place → Type 0
 Within (One i c) = (i < most_connections) × (c.0 < most_codes)
 Within (Two h i c) = (h < most_connections) × (i < most_connections) × (c.0 < most_codes)
-Within (Past k) = ⊥

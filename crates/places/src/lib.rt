@@ -1,5 +1,6 @@
-// The places of a job's clauses, walked row by row in the order of document 01, "Clause lines": the clause with a number, and how many there are.
-// A row is a stage and a connection; its places are the codes that are forbidden there. Whoever goes over the clauses goes from row to row by `next_row`.
+// The places of a job's clauses, row after row in the order of document 01, "Clause lines": the clause with a number, and how many there are.
+// A row is a stage and a connection; its places are the codes that are forbidden there. Whoever goes over the clauses goes over the stages, and in each
+// over the connections.
 #![tactic(auto)]
 
 ghost use Rattle.std.specs.Prelude.{◌≡◌, ℕ, ◌+◌, ◌-◌, ◌*◌, ◌^◌, ◌≤◌, ◌<◌, length};
@@ -7,44 +8,44 @@ ghost use Rattle.channel.specs.Limits.{most_tracks, most_connections};
 ghost use Rattle.clauses.specs.Clauses.{bits_for};
 ghost use Rattle.places.specs.Places.{place_at, places_of, FoundAt, Sized};
 ghost use Rattle.places.specs.Table.{shut, due, table_grid, forbidden_in, table_row, many_clauses};
-ghost use Rattle.places.specs.Rows.{Limited, Reach, Follows, LiesIn, NthIn};
+ghost use Rattle.places.specs.Rows.{Limited, Reach, LiesIn, NthIn};
 
 use channel::{Code, MOST_CODES, MOST_CONNECTIONS};
-use occupancy::TABLE;
+use occupancy::Table;
 
 // More clauses than there can be, as specs/Table.antt has it.
 const MANY: usize = (MOST_CONNECTIONS + 2) * (MOST_CONNECTIONS * MOST_CODES);
 
-// A clause's place: a connection, counted from 0, and the code that it forbids; two connections and the code; or how far behind the last one a number lies.
-#[derive(Clone, Copy)]
+// A clause's place: a connection, counted from 0, and the code that it forbids; or two connections and the code.
+#[derive(Clone, Copy, Debug, PartialEq, Eq)]
 pub enum Place {
     One(usize, Code),
     Two(usize, usize, Code),
-    Past(usize),
 }
 
 // How many bits a code has, and how many codes there are.
-#[derive(Clone, Copy)]
+#[derive(Clone, Copy, Debug, PartialEq, Eq)]
 pub struct Size {
     pub w: u8,
     pub top: u8,
 }
 
 // Stage 0 is group 1, stage 1 group 2, and stage h + 2 has connection h + 1 in group 3, with each connection i + 1 behind it.
-#[derive(Clone, Copy)]
+#[derive(Clone, Copy, Debug, PartialEq, Eq)]
 pub struct Row {
     pub stage: usize,
     pub i: usize,
 }
 
-// Where a number lies: behind so many places of a row. At the end of the walk: by how many it lies behind the last place.
-#[derive(Clone, Copy)]
+// Where a number lies: in a row, behind so many of its places.
+#[derive(Clone, Copy, Debug, PartialEq, Eq)]
 pub struct Spot {
     pub row: Row,
     pub rest: usize,
 }
 
 // w and 2^w for t tracks: doubled from one bit on until t codes have room.
+// Kept: a `while`, for it ends by the doubled number and counts up to none.
 pub fn size_of(t: u8) -> Size
     requires { t ≤ most_tracks }
     ensures { Sized t result.w result.top }
@@ -55,53 +56,53 @@ pub fn size_of(t: u8) -> Size
         w += 1;
         top *= 2;
     }
-    Size { w: w, top: top }
+    Size { w, top }
 }
 
 // Whether the code c is barred for connection i + 1.
-fn is_shut(runs: &[u8; TABLE], i: usize, c: Code) -> bool
+fn is_shut(table: &Table, i: usize, c: Code) -> bool
     requires { (i < most_connections) × (c.0 < most_tracks) }
-    ensures { result ≡ shut runs.now i c.0 }
+    ensures { result ≡ shut table.now.runs i c.0 }
 {
-    occupancy::last_in(runs, i, c) < occupancy::first_in(runs, i, c)
+    table.last_in(i, c) < table.first_in(i, c)
 }
 
 // Whether a clause is due for connections h + 1 and i + 1 on the track with the code c: both runs are there, they have a segment in common, and two owners.
-fn is_due(runs: &[u8; TABLE], h: usize, i: usize, c: Code) -> bool
+fn is_due(table: &Table, h: usize, i: usize, c: Code) -> bool
     requires { (h < most_connections) × (i < most_connections) × (c.0 < most_tracks) }
-    ensures { result ≡ due runs.now h i c.0 }
+    ensures { result ≡ due table.now.runs h i c.0 }
 {
-    let a = occupancy::first_in(runs, h, c);
-    let e = occupancy::last_in(runs, h, c);
-    let b = occupancy::first_in(runs, i, c);
-    let d = occupancy::last_in(runs, i, c);
-    let apart = occupancy::owner_in(runs, h) != occupancy::owner_in(runs, i);
+    let a = table.first_in(h, c);
+    let e = table.last_in(h, c);
+    let b = table.first_in(i, c);
+    let d = table.last_in(i, c);
+    let apart = table.owner_in(h) != table.owner_in(i);
     (h < i) & ((((a <= d) & (b <= e)) & apart) & (!(e < a) & !(d < b)))
 }
 
 // Whether a row behind stage 0 has a clause for the code c of a track.
-fn is_forbidden_on(runs: &[u8; TABLE], row: Row, c: Code) -> bool
-    requires { (1 ≤ row.stage) × (row.stage < most_connections + 2) × (row.i < most_connections) × (c.0 < most_tracks) }
-    ensures { (t : ℕ) → c.0 < t → result ≡ forbidden_in runs.now t row c.0 }
+fn is_forbidden_on(table: &Table, row: Row, c: Code) -> bool
+    requires { (1 ≤ row.stage) × Limited row × (c.0 < most_tracks) }
+    ensures { (t : ℕ) → c.0 < t → result ≡ forbidden_in table.now.runs t row c.0 }
 {
     if row.stage == 1 {
-        return is_shut(runs, row.i, c);
+        return is_shut(table, row.i, c);
     }
-    is_due(runs, row.stage - 2, row.i, c)
+    is_due(table, row.stage - 2, row.i, c)
 }
 
 // Whether a row has a clause for the code c.
-pub fn is_forbidden(runs: &[u8; TABLE], t: u8, row: Row, c: Code) -> bool
-    requires { Limited t row }
-    ensures { result ≡ forbidden_in runs.now t row c.0 }
+pub fn is_forbidden(table: &Table, row: Row, c: Code) -> bool
+    requires { Limited row }
+    ensures { result ≡ forbidden_in table.now.runs table.now.tracks row c.0 }
 {
     if row.stage == 0 {
-        return t <= c.0;
+        return table.tracks <= c.0;
     }
-    if t <= c.0 {
+    if table.tracks <= c.0 {
         return false;
     }
-    is_forbidden_on(runs, row, c)
+    is_forbidden_on(table, row, c)
 }
 
 // Where the tracks' codes of a row below n end: at once where the row's connection is not behind the stage's.
@@ -112,93 +113,64 @@ fn reach(t: u8, row: Row, n: u8) -> u8
     if row.i + 2 <= row.stage {
         return 0;
     }
-    if n < t {
-        return n;
-    }
-    t
+    t.min(n)
 }
 
 // How many places of a row have a code below n. Stage 0 has just the codes that no track has. The loop has no way out but its end and no test of the
-// track, so that several codes can be tested at once.
-pub fn count_to(runs: &[u8; TABLE], t: u8, row: Row, n: u8) -> usize
-    requires { Limited t row }
-    ensures { (result ≡ length (table_row runs.now t row n)) × (result ≤ n) }
+// track, and counts in a byte, so that several codes can be tested at once.
+// Kept: a loop, for `filter` and `count` over the range took almost twice the time.
+pub fn count_to(table: &Table, row: Row, n: u8) -> usize
+    requires { Limited row }
+    ensures { (result ≡ length (table_row table.now.runs table.now.tracks row n)) × (result ≤ n) }
 {
-    let end = reach(t, row, n);
+    let end = reach(table.tracks, row, n);
     if row.stage == 0 {
-        return (n - end) as usize;
+        return usize::from(n - end);
     }
     let mut k: u8 = 0;
-    let mut c: u8 = 0;
-    while c < end {
-        if is_forbidden_on(runs, row, Code(c)) {
+    for c in 0..end {
+        if is_forbidden_on(table, row, Code(c)) {
             k += 1;
         }
-        c += 1;
     }
-    k as usize
+    usize::from(k)
 }
 
-// The row behind a row: the next connection's, or the first of the next stage; behind the last row of all, the end of the walk.
-pub fn next_row(row: Row, m: usize) -> Row
-    requires { (m ≤ most_connections) × (row.stage < m + 2) × (row.i < m) }
-    ensures { Follows m row result }
+// The row in which the place with the number n lies, from 0, with what is left of n there; or by how many n lies behind the last place.
+pub fn seek(table: &Table, n: usize) -> Result<Spot, usize>
+    ensures { let s = table.now in LiesIn (table_grid s.runs s.tracks s.connections) n result }
 {
-    if row.i + 1 < m {
-        return Row {
-            stage: row.stage,
-            i: row.i + 1,
-        };
-    }
-    if m < row.stage {
-        return Row {
-            stage: row.stage,
-            i: m,
-        };
-    }
-    Row {
-        stage: row.stage + 1,
-        i: 0,
-    }
-}
-
-// The row in which the place with the number n lies, from 0, with what is left of n there.
-pub fn seek(runs: &[u8; TABLE], t: u8, m: usize, n: usize) -> Spot
-    requires t_le_most_tracks { t ≤ most_tracks }
-    requires m_le_most_connections { m ≤ most_connections }
-    ensures { LiesIn (table_grid runs.now t m) n result }
-{
-    let size = size_of(t);
-    let mut row = Row { stage: 0, i: 0 };
+    let size = size_of(table.tracks);
     let mut rest = n;
-    while row.i < m {
-        let here = count_to(runs, t, row, size.top);
-        if rest < here {
-            return Spot { row, rest };
+    for stage in 0..table.connections + 2 {
+        for i in 0..table.connections {
+            let row = Row { stage, i };
+            let here = count_to(table, row, size.top);
+            if rest < here {
+                return Ok(Spot { row, rest });
+            }
+            rest -= here;
         }
-        rest -= here;
-        row = next_row(row, m);
     }
-    Spot { row, rest }
+    Err(rest)
 }
 
 // The code of a row's place n, from 0.
-pub fn code_in(runs: &[u8; TABLE], t: u8, row: Row, n: usize) -> Code
-    requires limited { Limited t row }
-    requires n_in_bounds { n < length (table_row runs.now t row (2 ^ bits_for t)) }
-    ensures { NthIn runs.now t row n result.0 }
+pub fn code_in(table: &Table, row: Row, n: usize) -> Code
+    requires limited { Limited row }
+    requires n_in_bounds { let s = table.now in n < length (table_row s.runs s.tracks row (2 ^ bits_for s.tracks)) }
+    ensures { NthIn table.now.runs table.now.tracks row n result.0 }
 {
     let mut k = n;
-    let mut c: u8 = 0;
-    loop {
-        if is_forbidden(runs, t, row, Code(c)) {
+    for c in 0..size_of(table.tracks).top {
+        if is_forbidden(table, row, Code(c)) {
             if k == 0 {
                 return Code(c);
             }
             k -= 1;
         }
-        c += 1;
     }
+    unreachable!()
 }
 
 // The place of a code in a row.
@@ -212,25 +184,19 @@ pub fn place_at(row: Row, c: Code) -> Place
 }
 
 // The place of the clause with the number n, from 0, or by how many n lies behind the last.
-pub fn find(runs: &[u8; TABLE], t: u8, m: usize, n: usize) -> Place
-    requires t_le_most_tracks { t ≤ most_tracks }
-    requires m_le_most_connections { m ≤ most_connections }
-    ensures { FoundAt (places_of (table_grid runs.now t m)) n result }
+pub fn find(table: &Table, n: usize) -> Result<Place, usize>
+    ensures { let s = table.now in FoundAt (places_of (table_grid s.runs s.tracks s.connections)) n result }
 {
-    let spot = seek(runs, t, m, n);
-    let row = spot.row;
-    if m <= row.i {
-        return Place::Past(spot.rest);
-    }
-    place_at(row, code_in(runs, t, row, spot.rest))
+    let spot = seek(table, n)?;
+    Ok(place_at(spot.row, code_in(table, spot.row, spot.rest)))
 }
 
 // The number of clauses: a number behind the last tells it.
-pub fn count(runs: &[u8; TABLE], t: u8, m: usize) -> usize
-    requires t_le_most_tracks { t ≤ most_tracks }
-    requires m_le_most_connections { m ≤ most_connections }
-    ensures { (result ≡ length (places_of (table_grid runs.now t m))) × (result ≤ many_clauses) }
+pub fn count(table: &Table) -> usize
+    ensures { let s = table.now in (result ≡ length (places_of (table_grid s.runs s.tracks s.connections))) × (result ≤ many_clauses) }
 {
-    let spot = seek(runs, t, m, MANY);
-    MANY - spot.rest
+    match seek(table, MANY) {
+        Ok(_) => unreachable!(),
+        Err(past) => MANY - past,
+    }
 }

@@ -5,6 +5,9 @@ use mathlib.Core.Logic.{inr}
 use mathlib.Core.List.{List, [], ◌∷◌, ◌++◌}
 use Prim.Native.Nat.{ℕ, ◌≤◌}
 use lib.ListN.{length, drop}
+use Rattle.std.specs.Prelude.{Result, Ok, Err}
+use Rattle.refusals.specs.declared.Refusal.{Refusal}
+use Rattle.refusals.specs.Refusal.{number_of}
 use Rattle.refusals.specs.Table.{Refuses, Passes}
 use Rattle.dimacs.specs.Clause.{Literal, Clause, value_in}
 use Rattle.dimacs.specs.Reply.{unsatisfiable, unknown}
@@ -57,30 +60,32 @@ module _ (f t l : List ℕ) (pass : Passes (file_rows f)) (room : m_of f ≤ len
   means a e = subst (Means n cs t) e (reply_means n cs t)
 
   -- from the answer to the text
-  pub answered_replies : FileOf f j → (r : Answer) (l' : List ℕ) → Answered j t l r l' → Replies f t l r l'
-  answered_replies file variant.Accepted l' (xs, e, w) =
+  pub answered_replies : FileOf f j → (r : Result Answer Refusal) (l' : List ℕ) → Answered j t l r l' → Replies f t l r l'
+  answered_replies file (Ok variant.Accepted) l' (xs, e, w) =
       let a = accepted_model n cs t xs e in (
         passes_text f (length l) t pass room (passes_of n cs t xs (means (Accepted xs) e)),
         (j, file, (labels_by j (holds xs), labels_route j (holds xs) a.1.all, record { literals = xs; gives = a.0; values = labels-spell j (holds xs) a.1.all }, w)),
       )
-  answered_replies file variant.Claimed l' (e, w) = let a = claims_of n cs t (means Claimed e) in (passes_text f (length l) t pass room a.1, ((j, file), a.0), w)
-  answered_replies file variant.Unknown l' (e, w) = let a = unknown_of n cs t (means Unknown e) in (passes_text f (length l) t pass room a.1, ((j, file), a.0), w)
-  answered_replies file (variant.Refused num place) l' (e, w) = (refused_text_lem f (length l) t pass room num place (refuses_of n cs t num place (means (Refused num place) e)), w)
+  answered_replies file (Ok variant.Claimed) l' (e, w) = let a = claims_of n cs t (means Claimed e) in (passes_text f (length l) t pass room a.1, ((j, file), a.0), w)
+  answered_replies file (Ok variant.Unknown) l' (e, w) = let a = unknown_of n cs t (means Unknown e) in (passes_text f (length l) t pass room a.1, ((j, file), a.0), w)
+  answered_replies file (Err r) l' (e, w) =
+      let num = number_of r.reason in (refused_text_lem f (length l) t pass room num r.place (refuses_of n cs t num r.place (means (Refused num r.place) e)), w)
 
   text_passes : Passes (reply_call f (length l) t) → Passes (reply_rows n cs t)
   text_passes g x p h = g x p (inr (inr h))
 
   -- and back
-  pub replies_answered : (r : Answer) (l' : List ℕ) → Replies f t l r l' → Answered j t l r l'
-  replies_answered variant.Accepted l' (p, (i, g, (q, r, s, w))) =
+  pub replies_answered : (r : Result Answer Refusal) (l' : List ℕ) → Replies f t l r l' → Answered j t l r l'
+  replies_answered (Ok variant.Accepted) l' (p, (i, g, (q, r, s, w))) =
       let e = means_is n cs t (is_accepted s.literals s.gives (text_passes p)) in
       let d = job_is f i g in
       let r' = subst (λ x. Routing x q) d r in
       let y = subst (λ x. l' ≡ q ++ drop (M x) l) d w in
       (s.literals, e, y ∙ ap (λ z. z ++ drop (M j) l) (sym (labels_are j (holds s.literals) q r' (subst (λ x. (v : ℕ) → 1 ≤ v → v ≤ variable_count x → holds s.literals v ≡ value_in (spelled x q) v) d s.values))))
-  replies_answered variant.Claimed l' (p, (g, s), w) = (means_is n cs t (is_claimed s (text_passes p)), w)
-  replies_answered variant.Unknown l' (p, (g, s), w) = (means_is n cs t (is_unknown s (text_passes p)), w)
-  replies_answered (variant.Refused num place) l' (g, w) = (means_is n cs t (is_refused num place (text_decides f (length l) t pass room num place g)), w)
+  replies_answered (Ok variant.Claimed) l' (p, (g, s), w) = (means_is n cs t (is_claimed s (text_passes p)), w)
+  replies_answered (Ok variant.Unknown) l' (p, (g, s), w) = (means_is n cs t (is_unknown s (text_passes p)), w)
+  replies_answered (Err r) l' (g, w) =
+      let num = number_of r.reason in (means_is n cs t (is_refused num r.place (text_decides f (length l) t pass room num r.place g)), w)
 
 -- the file and the buffer of an answer that is no refusal
 pub settled_file : (f : List ℕ) (j : Job) → FileOf f j → FileOf f (job_of f)

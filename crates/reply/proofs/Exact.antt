@@ -7,8 +7,11 @@ use Prim.Native.Nat.{ℕ, ◌≤◌}
 use native.Mathlib.Omega.{arith}
 use lib.ListN.{length, drop}
 use Rattle.facts.proofs.Bools.{never}
-use Rattle.refusals.specs.Table.{FirstBroken, Refuses, Passes}
-use Rattle.refusals.proofs.Laws.{passes_or, passes_row, decided_one}
+use Rattle.std.specs.Prelude.{Result, Ok, Err}
+use Rattle.refusals.specs.declared.Refusal.{Refusal}
+use Rattle.refusals.specs.Refusal.{RefusedBy}
+use Rattle.refusals.specs.Table.{FirstBroken, Passes}
+use Rattle.refusals.proofs.Laws.{passes_or, passes_row, refused_one, reason_of, reason_numbered}
 use Rattle.dimacs.specs.Clause.{Literal, Clause, value_in}
 use Rattle.dimacs.specs.Reply.{Status, satisfiable, unsatisfiable, unknown, statuses, literals}
 use Rattle.dimacs.specs.Model.{holds, Reply, Refused, Accepted, Claimed, Unknown}
@@ -31,11 +34,11 @@ use Rattle.reply.proofs.Bridge.{file_passes, replies_answered, settled_file}
 use Rattle.reply.proofs.Spelling.{labels_are}
 
 -- the answer, and the lent bytes after it, by what is replied to the text
-abbrev pub named : Reply → Answer
-named (Refused num place) = variant.Refused num place
-named (Accepted xs) = variant.Accepted
-named Claimed = variant.Claimed
-named Unknown = variant.Unknown
+abbrev pub named : Reply → Result Answer Refusal
+named (Refused num place) = Err (record { reason = reason_of num; place = place })
+named (Accepted xs) = Ok variant.Accepted
+named Claimed = Ok variant.Claimed
+named Unknown = Ok variant.Unknown
 
 abbrev pub left : Job → List ℕ → Reply → List ℕ
 left j l (Refused num place) = l
@@ -43,18 +46,18 @@ left j l (Accepted xs) = labels_by j (holds xs) ++ drop (M j) l
 left j l Claimed = l
 left j l Unknown = l
 
-pub answered_is : (j : Job) (t l : List ℕ) (r : Answer) (l' : List ℕ) → Answered j t l r l' → (r ≡ named (reply_of (variable_count j) (clauses j) t)) × (l' ≡ left j l (reply_of (variable_count j) (clauses j) t))
-answered_is j t l variant.Accepted l' (xs, e, w) = (sym (ap named e), w ∙ sym (ap (left j l) e))
-answered_is j t l variant.Claimed l' (e, w) = (sym (ap named e), w ∙ sym (ap (left j l) e))
-answered_is j t l variant.Unknown l' (e, w) = (sym (ap named e), w ∙ sym (ap (left j l) e))
-answered_is j t l (variant.Refused num place) l' (e, w) = (sym (ap named e), w ∙ sym (ap (left j l) e))
+pub answered_is : (j : Job) (t l : List ℕ) (r : Result Answer Refusal) (l' : List ℕ) → Answered j t l r l' → (r ≡ named (reply_of (variable_count j) (clauses j) t)) × (l' ≡ left j l (reply_of (variable_count j) (clauses j) t))
+answered_is j t l (Ok variant.Accepted) l' (xs, e, w) = (sym (ap named e), w ∙ sym (ap (left j l) e))
+answered_is j t l (Ok variant.Claimed) l' (e, w) = (sym (ap named e), w ∙ sym (ap (left j l) e))
+answered_is j t l (Ok variant.Unknown) l' (e, w) = (sym (ap named e), w ∙ sym (ap (left j l) e))
+answered_is j t l (Err r) l' (e, w) = ((λ i. Err (record { reason = sym (reason_numbered r.reason) i; place = r.place })) ∙ sym (ap named e), w ∙ sym (ap (left j l) e))
 
 module _ (f t l : List ℕ) where
   -- where the file and the buffer pass, the answer is what is replied to the text
-  pub replies_is : Passes (file_rows f) → m_of f ≤ length l → (r : Answer) (l' : List ℕ) → Replies f t l r l' → (r ≡ named (reply_of (variable_count (job_of f)) (clauses (job_of f)) t)) × (l' ≡ left (job_of f) l (reply_of (variable_count (job_of f)) (clauses (job_of f)) t))
+  pub replies_is : Passes (file_rows f) → m_of f ≤ length l → (r : Result Answer Refusal) (l' : List ℕ) → Replies f t l r l' → (r ≡ named (reply_of (variable_count (job_of f)) (clauses (job_of f)) t)) × (l' ≡ left (job_of f) l (reply_of (variable_count (job_of f)) (clauses (job_of f)) t))
   replies_is pass room r l' g = answered_is (job_of f) t l r l' (replies_answered f t l pass room r l' g)
 
-  via : (j : Job) → FileOf f j → Passes (reply_call f (length l) t) → (r s : Answer) (l' m : List ℕ) → Replies f t l r l' → Replies f t l s m → (r ≡ s) × (l' ≡ m)
+  via : (j : Job) → FileOf f j → Passes (reply_call f (length l) t) → (r s : Result Answer Refusal) (l' m : List ℕ) → Replies f t l r l' → Replies f t l s m → (r ≡ s) × (l' ≡ m)
   via j file p r s l' m g h =
       let x = replies_is (file_passes f j file) (call_room f (length l) t p) in
       let a = x r l' g in
@@ -62,28 +65,28 @@ module _ (f t l : List ℕ) where
       (a.0 ∙ sym b.0, a.1 ∙ sym b.1)
 
   -- any two answers are equal, and so are the lent bytes after them
-  pub replies_one : (r s : Answer) (l' m : List ℕ) → Replies f t l r l' → Replies f t l s m → (r ≡ s) × (l' ≡ m)
-  replies_one (variant.Refused a p) (variant.Refused b q) l' m g h = let d = decided_one (call_sound f (length l) t) g.0 h.0 in (cc (d.0, d.1), g.1 ∙ sym h.1)
-  replies_one (variant.Refused a p) variant.Accepted l' m g h = absurd (h.0 a p g.0.holds)
-  replies_one (variant.Refused a p) variant.Claimed l' m g h = absurd (h.0 a p g.0.holds)
-  replies_one (variant.Refused a p) variant.Unknown l' m g h = absurd (h.0 a p g.0.holds)
-  replies_one variant.Accepted s l' m g h = via g.1.0 g.1.1 g.0 variant.Accepted s l' m g h
-  replies_one variant.Claimed s l' m g h = via g.1.0.0 g.1.0.1 g.0 variant.Claimed s l' m g h
-  replies_one variant.Unknown s l' m g h = via g.1.0.0 g.1.0.1 g.0 variant.Unknown s l' m g h
+  pub replies_one : (r s : Result Answer Refusal) (l' m : List ℕ) → Replies f t l r l' → Replies f t l s m → (r ≡ s) × (l' ≡ m)
+  replies_one (Err a) (Err b) l' m g h = (ap Err (refused_one (call_sound f (length l) t) a b g.0 h.0), g.1 ∙ sym h.1)
+  replies_one (Err a) (Ok variant.Accepted) l' m g h = absurd (h.0 _ _ g.0.holds)
+  replies_one (Err a) (Ok variant.Claimed) l' m g h = absurd (h.0 _ _ g.0.holds)
+  replies_one (Err a) (Ok variant.Unknown) l' m g h = absurd (h.0 _ _ g.0.holds)
+  replies_one (Ok variant.Accepted) s l' m g h = via g.1.0 g.1.1 g.0 (Ok variant.Accepted) s l' m g h
+  replies_one (Ok variant.Claimed) s l' m g h = via g.1.0.0 g.1.0.1 g.0 (Ok variant.Claimed) s l' m g h
+  replies_one (Ok variant.Unknown) s l' m g h = via g.1.0.0 g.1.0.1 g.0 (Ok variant.Unknown) s l' m g h
 
   -- ACCEPTED, exactly
-  pub accepted_exactly : (r : Answer) (l' : List ℕ) → Replies f t l r l' → (r ≡ variant.Accepted) ↔ ((j : Job) × FileOf f j × (M j ≤ length l) × Modelled j t)
+  pub accepted_exactly : (r : Result Answer Refusal) (l' : List ℕ) → Replies f t l r l' → (r ≡ Ok variant.Accepted) ↔ ((j : Job) × FileOf f j × (M j ≤ length l) × Modelled j t)
   accepted_exactly r l' g = (λ e. there (subst (λ x. Replies f t l x l') e g), back)
     where
-      there : Replies f t l variant.Accepted l' → (j : Job) × FileOf f j × (M j ≤ length l) × Modelled j t
+      there : Replies f t l (Ok variant.Accepted) l' → (j : Job) × FileOf f j × (M j ≤ length l) × Modelled j t
       there h =
           let file = settled_file f h.1.0 h.1.1 in
           let room = call_room f (length l) t h.0 in
-          let a = replies_answered f t l (file_passes f (job_of f) file) room variant.Accepted l' h in
+          let a = replies_answered f t l (file_passes f (job_of f) file) room (Ok variant.Accepted) l' h in
           let b = accepted_model (variable_count (job_of f)) (clauses (job_of f)) t a.0 a.1 in
           (job_of f, file, (let e = (job_numbers f).m_is in omega arith), record { literals = a.0; gives = b.0; model = b.1 })
 
-      back : (j : Job) × FileOf f j × (M j ≤ length l) × Modelled j t → r ≡ variant.Accepted
+      back : (j : Job) × FileOf f j × (M j ≤ length l) × Modelled j t → r ≡ Ok variant.Accepted
       back (j, file, room, m) =
           let d = job_is f j file in
           let m' = subst (λ i. Modelled i t) d m in
@@ -92,8 +95,8 @@ module _ (f t l : List ℕ) where
           (replies_is (file_passes f j file) (let k = (job_numbers f).m_is in omega arith) r l' g).0 ∙ ap named e
 
   -- a refusal is given exactly as the table decides
-  pub refused_exactly : (r : Answer) (l' : List ℕ) → Replies f t l r l' → (num place : ℕ) → (r ≡ variant.Refused num place) ↔ Refuses (reply_call f (length l) t) num place
-  refused_exactly r l' g num place = (λ e. (subst (λ x. Replies f t l x l') e g).0, λ h. (replies_one r (variant.Refused num place) l' l g (h, refl)).0)
+  pub refused_exactly : (r : Result Answer Refusal) (l' : List ℕ) → Replies f t l r l' → (a : Refusal) → (r ≡ Err a) ↔ RefusedBy (reply_call f (length l) t) a
+  refused_exactly r l' g a = (λ e. (subst (λ x. Replies f t l x l') e g).0, λ h. (replies_one r (Err a) l' l g (h, refl)).0)
 
   -- what the text says without a model passes every row of the text
   says_passes : (s : Status) (n : ℕ) (cs : List Clause) → Says t (s ∷ []) [] → ((s ≡ unsatisfiable) ⊎ (s ≡ unknown)) → (s ≡ satisfiable → ⊥) → Passes (reply_rows n cs t)
@@ -111,7 +114,7 @@ module _ (f t l : List ℕ) where
 
   module _ (s : Status) (k : (s ≡ unsatisfiable) ⊎ (s ≡ unknown)) (other : s ≡ satisfiable → ⊥) (a : Reply) (is : (n : ℕ) (cs : List Clause) → Says t (s ∷ []) [] → Passes (reply_rows n cs t) → Means n cs t a) where
     -- a text with such an `s` line is answered by it
-    answered_so : (r : Answer) (l' : List ℕ) → Replies f t l r l' → (j : Job) × FileOf f j × (M j ≤ length l) × Says t (s ∷ []) [] → r ≡ named a
+    answered_so : (r : Result Answer Refusal) (l' : List ℕ) → Replies f t l r l' → (j : Job) × FileOf f j × (M j ≤ length l) × Says t (s ∷ []) [] → r ≡ named a
     answered_so r l' g (j, file, room, h) =
         let n = variable_count (job_of f) in
         let cs = clauses (job_of f) in
@@ -123,13 +126,13 @@ module _ (f t l : List ℕ) where
   room_of p j file = let a = call_room f (length l) t p in let b = (job_numbers f).m_is in let c = ap M (job_is f j file) in omega arith
 
   -- CLAIMED and UNKNOWN, exactly
-  pub claimed_exactly : (r : Answer) (l' : List ℕ) → Replies f t l r l' → (r ≡ variant.Claimed) ↔ ((j : Job) × FileOf f j × (M j ≤ length l) × Says t (unsatisfiable ∷ []) [])
+  pub claimed_exactly : (r : Result Answer Refusal) (l' : List ℕ) → Replies f t l r l' → (r ≡ Ok variant.Claimed) ↔ ((j : Job) × FileOf f j × (M j ≤ length l) × Says t (unsatisfiable ∷ []) [])
   claimed_exactly r l' g = (
     (λ e. let h = subst (λ x. Replies f t l x l') e g in (h.1.0.0, h.1.0.1, room_of h.0 h.1.0.0 h.1.0.1, h.1.1)),
     answered_so unsatisfiable (inl refl) (λ e. never cc) Claimed (λ n cs. is_claimed) r l' g,
   )
 
-  pub unknown_exactly : (r : Answer) (l' : List ℕ) → Replies f t l r l' → (r ≡ variant.Unknown) ↔ ((j : Job) × FileOf f j × (M j ≤ length l) × Says t (unknown ∷ []) [])
+  pub unknown_exactly : (r : Result Answer Refusal) (l' : List ℕ) → Replies f t l r l' → (r ≡ Ok variant.Unknown) ↔ ((j : Job) × FileOf f j × (M j ≤ length l) × Says t (unknown ∷ []) [])
   unknown_exactly r l' g = (
     (λ e. let h = subst (λ x. Replies f t l x l') e g in (h.1.0.0, h.1.0.1, room_of h.0 h.1.0.0 h.1.0.1, h.1.1)),
     answered_so unknown (inr refl) (λ e. never cc) Unknown (λ n cs. is_unknown) r l' g,

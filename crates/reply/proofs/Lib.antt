@@ -3,7 +3,6 @@ pub mod Spelling
 pub mod Bridge
 pub mod Weighing
 pub mod Answering
-pub mod Entry
 pub mod Exact
 pub mod Cut
 pub mod Determined

@@ -1,7 +1,10 @@
 -- Document 01, "A solver's reply" and "Replies by number": what is answered to a reply, for every file, every text and every lent buffer.
 -- Assumes nothing: these are definitions.
-use Rattle.std.specs.Prelude.{◌≡◌, List, [], ◌∷◌, ◌++◌, ◌⊎◌, ℕ, ◌≤◌, length, drop}
-use Rattle.refusals.specs.Table.{Rows, ◌or◌, room_row, Refuses, Passes}
+use Rattle.std.specs.Prelude.{◌≡◌, List, [], ◌∷◌, ◌++◌, ◌⊎◌, Result, Ok, Err, ℕ, ◌≤◌, length, drop}
+use Rattle.refusals.specs.declared.Reason.TheVariants as reason
+use Rattle.refusals.specs.declared.Refusal.{Refusal}
+use Rattle.refusals.specs.Refusal.{RefusedBy}
+use Rattle.refusals.specs.Table.{Rows, ◌or◌, room_row, Passes}
 use Rattle.dimacs.specs.Clause.{Literal, value_in}
 use Rattle.dimacs.specs.Reply.{Status, unsatisfiable, unknown}
 use Rattle.dimacs.specs.Model.{holds}
@@ -30,12 +33,12 @@ Answers f t s = ((j : Job) × FileOf f j) × Says t (s ∷ []) []
 
 -- document 01's number and values for each answer to the file f, the text t and the lent bytes l, which are l' afterwards.
 -- Accepted: the labels of the legal routing whose codes the reply's model spells, and the rest as it was; any other answer changes no byte
-abbrev pub Replies : List ℕ → List ℕ → List ℕ → Answer → List ℕ → Type 0
-Replies f t l variant.Accepted l' =
+abbrev pub Replies : List ℕ → List ℕ → List ℕ → Result Answer Refusal → List ℕ → Type 0
+Replies f t l (Ok variant.Accepted) l' =
     Passes (reply_call f (length l) t) × ((j : Job) × FileOf f j × ((q : List ℕ) × Routing j q × Spells j t q × (l' ≡ q ++ drop (M j) l)))
-Replies f t l variant.Claimed l' = Passes (reply_call f (length l) t) × Answers f t unsatisfiable × (l' ≡ l)
-Replies f t l variant.Unknown l' = Passes (reply_call f (length l) t) × Answers f t unknown × (l' ≡ l)
-Replies f t l (variant.Refused num place) l' = Refuses (reply_call f (length l) t) num place × (l' ≡ l)
+Replies f t l (Ok variant.Claimed) l' = Passes (reply_call f (length l) t) × Answers f t unsatisfiable × (l' ≡ l)
+Replies f t l (Ok variant.Unknown) l' = Passes (reply_call f (length l) t) × Answers f t unknown × (l' ≡ l)
+Replies f t l (Err r) l' = RefusedBy (reply_call f (length l) t) r × (l' ≡ l)
 
 -- the text is well-formed with `s SATISFIABLE`, and its literals are a model of the job's clauses
 pub record Modelled (j : Job) (t : List ℕ) : Type 0 where
@@ -45,8 +48,11 @@ pub record Modelled (j : Job) (t : List ℕ) : Type 0 where
 
 -- an answer s that leaves m, held against an answer r that leaves l': s is a refusal by row 6 and the lent bytes l are as they were, or s is the same and
 -- leaves the same
-abbrev pub BySix : List ℕ → Answer → List ℕ → Type 0
-BySix l s m = ((place : ℕ) × (s ≡ variant.Refused 6 place)) × (m ≡ l)
+abbrev pub by_six : ℕ → Result Answer Refusal
+by_six place = Err (record { reason = reason.Text; place = place })
 
-abbrev pub SixOrSame : List ℕ → Answer → List ℕ → Answer → List ℕ → Type 0
+abbrev pub BySix : List ℕ → Result Answer Refusal → List ℕ → Type 0
+BySix l s m = ((place : ℕ) × (s ≡ by_six place)) × (m ≡ l)
+
+abbrev pub SixOrSame : List ℕ → Result Answer Refusal → List ℕ → Result Answer Refusal → List ℕ → Type 0
 SixOrSame l r l' s m = BySix l s m ⊎ ((s ≡ r) × (m ≡ l'))

@@ -4,113 +4,87 @@
 
 ghost use Rattle.std.specs.Prelude.{◌≡◌, ◌+◌, ◌*◌, ◌≤◌, ◌<◌, length};
 ghost use Rattle.channel.specs.Limits.{most_connections, most_codes};
-ghost use Rattle.jobfile.specs.Rows.{job_of};
+ghost use Rattle.jobfile.specs.Rows.{m_of, job_of};
 ghost use Rattle.model.specs.Codes.{set_in};
 ghost use Rattle.model.specs.Walks.{Below};
-ghost use Rattle.reply.specs.declared.Answer.TheVariants as variant;
-ghost use Rattle.reply.specs.Steps.{LabelsPut, Call, Weighs, Answered};
+ghost use Rattle.reply.specs.Steps.{LabelsPut, Weighs, Answered};
 ghost use Rattle.reply.specs.Replies.{Replies};
 
 use channel::{Code, MOST_CONNECTIONS, MOST_VALUES};
-use jobfile::Read;
-use model::Walk;
-use text::wide;
+use jobfile::JobFile;
+use refusals::{Reason, Refusal};
+use scan::Variables;
 
 // What a reply comes to. Claimed and Unknown are the solver's word, and say nothing of the job.
-#[derive(Clone, Copy)]
+#[derive(Clone, Copy, Debug, PartialEq, Eq)]
 pub enum Answer {
     Accepted,
     Claimed,
     Unknown,
-    Refused { number: u8, place: usize },
-}
-
-// Refused by a row of the table, at a place.
-fn refused(number: u8, place: usize) -> Answer
-    ensures { result ≡ variant.Refused number place }
-{
-    Answer::Refused { number, place }
 }
 
 // The labels of m codes; behind them nothing changes.
-fn write_labels(codes: [Code; MOST_CONNECTIONS], m: usize, labels: &mut [u8])
+// Kept: an index into the codes, since the loop over both slices by `zip` did not prove.
+fn write_labels(codes: &[Code; MOST_CONNECTIONS], m: usize, labels: &mut [u8])
     requires m_le_most_connections { m ≤ most_connections }
     requires m_in_bounds { m ≤ length labels.old }
-    requires below { Below most_codes m codes }
-    ensures { LabelsPut m codes labels.old labels.new }
+    requires below { Below most_codes m codes.now }
+    ensures { LabelsPut m codes.now labels.old labels.new }
 {
-    let mut i: usize = 0;
-    while i < m {
-        let label = channel::label_of(codes[i]);
-        labels[i] = label.0;
-        i += 1;
+    for (i, label) in labels[..m].iter_mut().enumerate() {
+        *label = channel::label_of(codes[i]).0;
     }
 }
 
 // Row 8, by the marks of the model's variables; and the labels, if it does not hold.
-fn weigh(file: &[u8], marks: &[u8; MOST_VALUES], t: u8, m: usize, labels: &mut [u8]) -> Answer
-    requires { Call file.now t m (length labels.old) }
-    ensures { Weighs (job_of file.now) (set_in marks.now) labels.old result labels.new }
+fn weigh(job: &JobFile, marks: &[u8; MOST_VALUES], labels: &mut [u8]) -> Result<(), Refusal>
+    requires { m_of job.now.bytes.now ≤ length labels.old }
+    ensures { Weighs (job_of job.now.bytes.now) (set_in marks.now) labels.old result labels.new }
 {
-    let size = places::size_of(t);
-    let codes = model::codes_of(marks, wide(size.w), m);
-    let runs = occupancy::table(file);
-    match model::first_false(&runs, codes, t, size.top, m) {
-        Walk::False(place) => refused(8, place),
-        Walk::Passed(_) => {
-            write_labels(codes, m, labels);
-            Answer::Accepted
-        }
+    let table = occupancy::table(job);
+    let size = places::size_of(table.tracks);
+    let codes = model::codes_of(marks, usize::from(size.w), table.connections);
+    if let Err(place) = model::first_false(&table, &codes) {
+        return Err(Reason::Clause.at(place));
     }
+    write_labels(&codes, table.connections, labels);
+    Ok(())
 }
 
 // Rows 6, 7 and 8, in this order.
-fn by_text(file: &[u8], text: &[u8], t: u8, m: usize, labels: &mut [u8]) -> Answer
-    requires { Call file.now t m (length labels.old) }
-    ensures { Answered (job_of file.now) text.now labels.old result labels.new }
+fn by_text(job: &JobFile, text: &[u8], labels: &mut [u8]) -> Result<Answer, Refusal>
+    requires { m_of job.now.bytes.now ≤ length labels.old }
+    ensures { Answered (job_of job.now.bytes.now) text.now labels.old result labels.new }
 {
-    let size = places::size_of(t);
-    let top = m * wide(size.w);
-    let reading = reader::read_all(text, top);
-    let said = reading.answer;
-    match said {
-        scan::Answer::Refused(place) => refused(6, place),
-        scan::Answer::Claimed => Answer::Claimed,
-        scan::Answer::Unknown => Answer::Unknown,
-        scan::Answer::Sat(count) => {
-            let wrong = reading.wrong;
-            if wrong != 0 {
-                return refused(7, wrong);
+    let size = places::size_of(job.sizes.tracks);
+    let variables = Variables {
+        count: usize::from(job.sizes.connections) * usize::from(size.w),
+    };
+    let reading = reader::read_all(text, variables);
+    match reading.answer {
+        Err(place) => Err(Reason::Text.at(place)),
+        Ok(scan::Answer::Claimed) => Ok(Answer::Claimed),
+        Ok(scan::Answer::Unknown) => Ok(Answer::Unknown),
+        Ok(scan::Answer::Sat(count)) => {
+            if let Some(wrong) = reading.wrong {
+                return Err(Reason::Literals.at(wrong));
             }
-            if count < top {
-                return refused(7, count + 1);
+            if count < variables.count {
+                return Err(Reason::Literals.at(count + 1));
             }
-            let marks = reading.seen;
-            weigh(file, &marks, t, m, labels)
+            weigh(job, &reading.seen, labels)?;
+            Ok(Answer::Accepted)
         }
     }
 }
 
 // The answer, for every file, every text and every lent buffer: rows 1 to 5, then 9, then 6 to 8.
-pub fn reply(file: &[u8], text: &[u8], labels: &mut [u8]) -> Answer
+pub fn reply(file: &[u8], text: &[u8], labels: &mut [u8]) -> Result<Answer, Refusal>
     ensures { Replies file.now text.now labels.old result labels.new }
 {
-    match jobfile::read_job(file) {
-        Read::Refused {
-            number: n,
-            place: p,
-        } => refused(n, p),
-        Read::Job {
-            columns: _,
-            tracks: t,
-            connections: m,
-            limit: _,
-        } => {
-            let count = wide(m);
-            if labels.len() < count {
-                return refused(9, 0);
-            }
-            by_text(file, text, t, count, labels)
-        }
+    let job = JobFile::read(file)?;
+    if labels.len() < usize::from(job.sizes.connections) {
+        return Err(Reason::Room.at(0));
     }
+    by_text(&job, text, labels)
 }

@@ -1,4 +1,4 @@
 pub mod Prints
-pub mod Status
+pub mod Statuses
 pub mod Determined
 pub mod Worked

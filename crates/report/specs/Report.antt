@@ -7,6 +7,10 @@ use Rattle.channel.specs.Channel.{Job, M}
 use Rattle.channel.specs.Verdict.{Decides}
 use Rattle.jobfile.specs.Rows.{file_rows}
 use Rattle.jobfile.specs.Reads.{FileOf}
+use Rattle.route.specs.declared.Verdict.{Verdict}
+use Rattle.route.specs.declared.Verdict.TheVariants.{Routed, Unroutable, Undecided}
+use Rattle.report.specs.declared.Status.{Status}
+use Rattle.report.specs.declared.Status.TheVariants as status
 use Rattle.rows.specs.Rows.{small, blank, lf, rows_text}
 
 -- the program's budget, and the longest input it reads
@@ -56,6 +60,24 @@ abbrev pub status_of : Outcome → ℕ
 status_of (first q n) = 0
 status_of (none n) = 1
 status_of (undecided n) = 2
+
+-- the number of a status
+abbrev pub status_number : Status → ℕ
+status_number status.Routed = 0
+status_number status.Unroutable = 1
+status_number status.Undecided = 2
+status_number status.Refused = 3
+
+-- the first line of a verdict, and its status
+abbrev pub line_of : Verdict → List ℕ
+line_of (Routed n) = verdict_text routed_word n
+line_of (Unroutable n) = verdict_text unroutable_word n
+line_of (Undecided n) = verdict_text undecided_word n
+
+abbrev pub status_told : Verdict → Status
+status_told (Routed n) = status.Routed
+status_told (Unroutable n) = status.Unroutable
+status_told (Undecided n) = status.Undecided
 
 -- what is printed for the input f, and the status. Over the longest it is refused as 3, place 0; else as the file's rows say; else it is the verdict on its job under the program's budget
 pub data Prints (f : List ℕ) : List ℕ → ℕ → Type 0 where

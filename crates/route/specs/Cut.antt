@@ -1,9 +1,9 @@
 -- Stepping stones: what a budget makes of a search tree: the contracts of the two functions that search. specs/Routes.antt has the public statement, and
 -- `judge_found`, `judge_dead` and `judge_spent` (proofs/Verdicts.antt) lead there. Assumes nothing: these are definitions.
 use Rattle.std.specs.Prelude.{◌≡◌, cond, List, [], ◌∷◌, ℕ, ◌+◌, ◌-◌, ◌≤◌, ◌<◌, leb, set}
-use Rattle.search.specs.Tree.{Res, found, dead}
-use Rattle.channel.specs.Limits.{most_tracks}
-use Rattle.marks.specs.Marking.{Inside}
+use Rattle.search.specs.Tree.{Res, found, dead, tries, place}
+use Rattle.occupancy.specs.declared.runs.Table.{Table}
+use Rattle.marks.specs.Marking.{Inside, marking}
 use Rattle.route.specs.declared.Step.{Step}
 use Rattle.route.specs.declared.Step.TheVariants.{Found, Dead, Spent}
 
@@ -27,7 +27,14 @@ pub record CutTo (b i : ℕ) (o : Res) (l : List ℕ) (r : Step) (l' : List ℕ)
   pub step : r ≡ step_of b o
   pub labels : l' ≡ written b i o l
 
--- what never changes on the way: the table of m connections on t tracks
-pub record Laid (runs : List ℕ) (t m : ℕ) : Type 0 where
-  pub narrow : t ≤ most_tracks
-  pub inside : (i l : ℕ) → i < m → 1 ≤ l → l ≤ t → Inside runs i l
+module _ (r : Table) (i : ℕ) (marks : List ℕ) where
+  -- the search tree that the connections from i + 1 on make beside the marks, and what of it is at the tracks labelled l and above
+  abbrev pub placing : Res
+  placing = place (marking r.runs r.tracks) (r.connections - i) (i, marks)
+
+  abbrev pub trying : ℕ → Res
+  trying l = tries (marking r.runs r.tracks) (place (marking r.runs r.tracks) (r.connections - (i + 1))) (r.tracks + 1 - l) l (i, marks)
+
+-- what never changes on the way: the table's runs are among the marks
+pub record Laid (r : Table) : Type 0 where
+  pub inside : (i l : ℕ) → i < r.connections → 1 ≤ l → l ≤ r.tracks → Inside r.runs i l

@@ -5,13 +5,12 @@
 #![tactic(auto)]
 
 ghost use Rattle.std.specs.Prelude.{◌≤◌};
-ghost use Rattle.io.specs.Counts.{IsPrefixLen};
 
-use report::{MOST_INPUT, TEXT};
+use report::{MOST_INPUT, Status, TEXT};
 use std::env::FillError;
 use std::fs;
 use std::fs::OpenOptions;
-use std::io::{Read, Stdin};
+use std::io::Error;
 use std::rt::Env;
 
 // The status of a run that could not read its input or write its text; the others are the report's.
@@ -23,50 +22,6 @@ const STATUS: i32 = 3;
 // Standard output as a path: std takes no descriptor by its number.
 const OUTPUT: &str = "/proc/self/fd/1";
 
-// What was read: how many bytes, and whether a read failed.
-#[derive(Clone, Copy)]
-struct Got {
-    length: usize,
-    failed: bool,
-}
-
-// One read into the front of the buffer. One that fails reads nothing.
-fn read_some(mut from: Stdin, buf: &mut [u8]) -> Got
-    ensures { IsPrefixLen result.length buf.new }
-{
-    match from.read(buf) {
-        Ok(length) => Got {
-            length,
-            failed: false,
-        },
-        Err(_) => Got {
-            length: 0,
-            failed: true,
-        },
-    }
-}
-
-// Reads until the buffer is full, the input ends or a read fails. Each turn that goes on has read a byte at least, so the loop ends.
-fn read_input(from: Stdin, buf: &mut [u8]) -> Got
-    ensures { IsPrefixLen result.length buf.new }
-{
-    let mut done: usize = 0;
-    while done < buf.len() {
-        let got = read_some(from, &mut buf[done..]);
-        if got.length == 0 {
-            return Got {
-                length: done,
-                failed: got.failed,
-            };
-        }
-        done += got.length;
-    }
-    Got {
-        length: done,
-        failed: false,
-    }
-}
-
 // Whether standard output is a file.
 fn writes_file(rt: &HostRuntime) -> bool {
     match fs::metadata(rt, OUTPUT) {
@@ -75,50 +30,48 @@ fn writes_file(rt: &HostRuntime) -> bool {
     }
 }
 
-// Whether the file that standard output is keeps its bytes. One that may not be opened again cannot be asked.
-fn keeps(rt: &HostRuntime) -> bool {
+// Has the file that standard output is keep its bytes. One that may not be opened again cannot be asked.
+fn keep(rt: &HostRuntime) -> Result<(), Error> {
     match OpenOptions::new().write(true).open(rt, OUTPUT) {
-        Ok(file) => file.sync_data().is_ok(),
-        Err(_) => true,
+        Ok(file) => file.sync_data(),
+        Err(_) => Ok(()),
     }
 }
 
-// Writes all of the text to standard output, and has a file keep it, since an error may show only then. True only if neither failed.
-fn write_text(rt: &HostRuntime, text: &[u8]) -> bool {
-    if rt.write_all(text).is_err() {
-        return false;
+// Writes all of the text to standard output, and has a file keep it, since an error may show only then.
+fn write_text(rt: &HostRuntime, text: &[u8]) -> Result<(), Error> {
+    rt.write_all(text)?;
+    if writes_file(rt) {
+        keep(rt)?;
     }
-    if !writes_file(rt) {
-        return true;
-    }
-    keeps(rt)
+    Ok(())
 }
 
-// Says on standard error what failed; the status is that of a failure.
-fn fail(rt: &HostRuntime, what: &[u8]) -> u8
-    ensures { result ≤ 4 }
-{
-    let _ = Print::write_all(&rt.stderr(), what);
-    FAILED
-}
-
-// Reads, reports and writes. The status is the report's, if nothing failed.
-fn run(rt: &HostRuntime) -> u8
-    ensures { result ≤ 4 }
-{
-    let mut input = [0u8; MOST_INPUT + 1];
-    let got = read_input(rt.stdin(), &mut input);
-    if got.failed {
-        return fail(rt, b"route: standard input could not be read\n");
-    }
-    let read = got.length;
+// Reads, reports and writes. The status is the report's, if nothing failed; else it is told what did.
+fn run(rt: &HostRuntime) -> Result<Status, &'static str> {
+    let mut bytes = [0u8; MOST_INPUT + 1];
+    let read = input::read_whole(&mut rt.stdin(), &mut bytes).map_err(
+        |_| "route: standard input could not be read\n",
+    )?;
     let mut text = [0u8; TEXT];
-    let said = report::report(&input[..read], &mut text);
-    let length = said.length;
-    if !write_text(rt, &text[..length]) {
-        return fail(rt, b"route: standard output could not be written whole\n");
+    let said = report::report(&bytes[..read], &mut text);
+    write_text(rt, &text[..said.length]).map_err(
+        |_| "route: standard output could not be written whole\n",
+    )?;
+    Ok(said.status)
+}
+
+// The status of a run. What failed is said on standard error.
+fn status_of(rt: &HostRuntime, run: Result<Status, &'static str>) -> u8
+    ensures { result ≤ 4 }
+{
+    match run {
+        Ok(status) => status.number(),
+        Err(what) => {
+            let _ = Print::write_all(&rt.stderr(), what.as_bytes());
+            FAILED
+        }
     }
-    said.status
 }
 
 // Whether the program was started with an argument.
@@ -137,5 +90,5 @@ fn tell(rt: &HostRuntime, status: u8)
 }
 
 fn main(rt: HostRuntime) {
-    tell(&rt, run(&rt));
+    tell(&rt, status_of(&rt, run(&rt)));
 }

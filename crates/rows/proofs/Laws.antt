@@ -6,8 +6,11 @@ use mathlib.Core.Logic.{inl, inr, ◌↔◌}
 use Prim.Native.Nat.{ℕ, zero, suc, ◌+◌, ◌*◌, ◌≤◌, ◌<◌}
 use native.Mathlib.Omega.{arith}
 use lib.ListN.{length, get_or, drop, length-append}
+use Rattle.std.specs.Prelude.{Result, Ok, Err}
 use Rattle.refusals.specs.Table.{before, line, Refuses, Passes, Sound}
-use Rattle.refusals.proofs.Laws.{refuses_left, behind_row, passes_or, passes_row, sound_or, sound_row, nowhere-one, decided_one, printed_order}
+use Rattle.refusals.specs.declared.Refusal.{Refusal}
+use Rattle.refusals.specs.Refusal.{number_of, RefusedBy}
+use Rattle.refusals.proofs.Laws.{refuses_left, behind_row, passes_or, passes_row, sound_or, sound_row, nowhere-one, refused_one, printed_order}
 use Rattle.text.specs.Text.{Wrote}
 use Rattle.text.proofs.Writing.{digits-length, front}
 use Rattle.channel.specs.Channel.{Job, M, occupied_by, track_at, connection_at}
@@ -16,11 +19,8 @@ use Rattle.jobfile.specs.Rows.{file_rows, m_of, job_of}
 use Rattle.jobfile.specs.Reads.{FileOf}
 use Rattle.jobfile.specs.Facts.{Facts}
 use Rattle.jobfile.proofs.Exact.{job_numbers, facts_of, facts_pass, job_is, file-before}
-use Rattle.judge.specs.declared.Judgement.TheVariants as judgement
-use Rattle.judge.specs.Judges.{judge_rows, Judges}
+use Rattle.judge.specs.Judges.{judge_rows}
 use Rattle.judge.proofs.Laws as judge
-use Rattle.rows.specs.declared.Answer.{Answer}
-use Rattle.rows.specs.declared.Answer.TheVariants.{Text, Refused}
 use Rattle.rows.specs.Rows.{row_room, first_of, last_of, row_text, rows_text}
 use Rattle.rows.specs.Lines.{lines_rows, Lines}
 
@@ -61,14 +61,8 @@ module _ (f q : List ℕ) where
   pub by_judge : (lent : ℕ) → m_of f * row_room ≤ lent → (num place : ℕ) → Refuses (judge_rows f q) num place → Refuses (lines_rows f q lent) num place
   by_judge lent h num place g = refuses_left g (record { at = λ x p r. absurd (let l = r.1.0 in omega arith) })
 
-  -- what the judge found legal is a routing of the job that the file's bytes tell
-  pub legal_routing : Judges f q judgement.Legal → FileOf f (job_of f) × Routing (job_of f) q
-  legal_routing (j, g, r) = (subst (FileOf f) (job_is f j g) g, subst (λ (i : Job). Routing i q) (job_is f j g) r)
-
-  pub by_legal : (old new : List ℕ) (n : ℕ) → Judges f q judgement.Legal → m_of f * row_room ≤ length old → Wrote old 0 (rows_text (job_of f) q (length q)) new n → Lines f q old (Text n) new
-  by_legal old new n g h w =
-      let l = legal_routing g in
-      record { job = job_of f; of_file = l.0; routing = l.1; room = rw (job_numbers f).m_is at h; wrote = rw l.1.whole at w }
+  pub by_legal : (old new : List ℕ) (n : ℕ) → FileOf f (job_of f) → Routing (job_of f) q → m_of f * row_room ≤ length old → Wrote old 0 (rows_text (job_of f) q (length q)) new n → Lines f q old (Ok n) new
+  by_legal old new n g r h w = record { job = job_of f; of_file = g; routing = r; room = rw (job_numbers f).m_is at h; wrote = rw r.whole at w }
 
   module _ (old : List ℕ) where
     -- a routing of the file's job, and room for its lines: no row holds, the answer is the length of the lines, and they stand at the front of the buffer before the rest of it
@@ -79,25 +73,25 @@ module _ (f q : List ℕ) where
           let m : M j ≡ m_of f = ap M e ∙ sym (job_numbers f).m_is in
           passes_or (judge.passes f q (facts_of f j g) (subst (λ (i : Job). Routing i q) e r)) (passes_row 9 (λ p h. let l = h.0 in omega arith))
 
-      pub text_is : (a : Answer) (new : List ℕ) → Lines f q old a new → let t = rows_text j q (M j) in (a ≡ Text (length t)) × (new ≡ t ++ drop (length t) old)
-      text_is (Text n) new h =
+      pub text_is : (a : Result ℕ Refusal) (new : List ℕ) → Lines f q old a new → let t = rows_text j q (M j) in (a ≡ Ok (length t)) × (new ≡ t ++ drop (length t) old)
+      text_is (Ok n) new h =
           let e : h.job ≡ j = job_is f h.job h.of_file ∙ sym (job_is f j g) in
           let w = subst (λ (i : Job). Wrote old 0 (rows_text i q (M i)) new n) e h.wrote in
-          (ap Text (omega (arith, w.next)), front (omega (arith, rows_length j q (M j))) w)
-      text_is (Refused num place) new h = absurd (routing_passes num place h.0.holds)
+          (ap Ok (omega (arith, w.next)), front (omega (arith, rows_length j q (M j))) w)
+      text_is (Err r) new h = absurd (routing_passes (number_of r.reason) r.place h.0.holds)
 
-      text-one : (a b : Answer) (new new' : List ℕ) → Lines f q old a new → Lines f q old b new' → (a ≡ b) × (new ≡ new')
+      text-one : (a b : Result ℕ Refusal) (new new' : List ℕ) → Lines f q old a new → Lines f q old b new' → (a ≡ b) × (new ≡ new')
       text-one a b new new' h k = let x = text_is a new h in let y = text_is b new' k in (x.0 ∙ sym y.0, x.1 ∙ sym y.1)
 
     -- any two answers are equal, and so is what they leave of the buffer
-    pub lines-one : (a b : Answer) (new new' : List ℕ) → Lines f q old a new → Lines f q old b new' → (a ≡ b) × (new ≡ new')
-    lines-one (Text n) b new new' g h = text-one g.job g.of_file g.routing g.room (Text n) b new new' g h
-    lines-one (Refused num place) (Text n) new new' g h = text-one h.job h.of_file h.routing h.room (Refused num place) (Text n) new new' g h
-    lines-one (Refused num place) (Refused num' place') new new' g h = let d = decided_one (lines_sound (length old)) g.0 h.0 in (cc (d.0, d.1), g.1 ∙ sym h.1)
+    pub lines-one : (a b : Result ℕ Refusal) (new new' : List ℕ) → Lines f q old a new → Lines f q old b new' → (a ≡ b) × (new ≡ new')
+    lines-one (Ok n) b new new' g h = text-one g.job g.of_file g.routing g.room (Ok n) b new new' g h
+    lines-one (Err r) (Ok n) new new' g h = text-one h.job h.of_file h.routing h.room (Err r) (Ok n) new new' g h
+    lines-one (Err r) (Err s) new new' g h = (ap Err (refused_one (lines_sound (length old)) r s g.0 h.0), g.1 ∙ sym h.1)
 
     -- what is answered, exactly: lines if the labels are a routing of the job that the file is of and there is room for them
-    pub text_exactly : (a : Answer) (new : List ℕ) → Lines f q old a new → ((n : ℕ) × (a ≡ Text n)) ↔ ((j : Job) × FileOf f j × Routing j q × (M j * row_room ≤ length old))
-    text_exactly a new g = (λ h. let w = subst (λ (b : Answer). Lines f q old b new) h.1 g in (w.job, w.of_file, w.routing, w.room), λ h. (_, (text_is h.0 h.1 h.2 h.3 a new g).0))
+    pub text_exactly : (a : Result ℕ Refusal) (new : List ℕ) → Lines f q old a new → ((n : ℕ) × (a ≡ Ok n)) ↔ ((j : Job) × FileOf f j × Routing j q × (M j * row_room ≤ length old))
+    text_exactly a new g = (λ h. let w = subst (λ (b : Result ℕ Refusal). Lines f q old b new) h.1 g in (w.job, w.of_file, w.routing, w.room), λ h. (_, (text_is h.0 h.1 h.2 h.3 a new g).0))
 
-    pub refused_exactly : (a : Answer) (new : List ℕ) → Lines f q old a new → (num place : ℕ) → (a ≡ Refused num place) ↔ Refuses (lines_rows f q (length old)) num place
-    refused_exactly a new g num place = (λ e. (subst (λ (b : Answer). Lines f q old b new) e g).0, λ h. (lines-one a (Refused num place) new old g (h, refl)).0)
+    pub refused_exactly : (a : Result ℕ Refusal) (new : List ℕ) → Lines f q old a new → (r : Refusal) → (a ≡ Err r) ↔ RefusedBy (lines_rows f q (length old)) r
+    refused_exactly a new g r = (λ e. (subst (λ (b : Result ℕ Refusal). Lines f q old b new) e g).0, λ h. (lines-one a (Err r) new old g (h, refl)).0)

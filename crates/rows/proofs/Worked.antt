@@ -16,8 +16,9 @@ use Rattle.jobfile.specs.Reads.{FileOf}
 use Rattle.jobfile.proofs.Exact.{facts_of}
 use Rattle.jobfile.proofs.Examples.{file_a, file_a_lem, valid_a}
 use Rattle.judge.proofs.Worked.{collides_a}
-use Rattle.rows.specs.declared.Answer.{Answer}
-use Rattle.rows.specs.declared.Answer.TheVariants.{Text, Refused}
+use Rattle.std.specs.Prelude.{Result, Ok, Err}
+use Rattle.refusals.specs.declared.Reason.TheVariants as reason
+use Rattle.refusals.specs.declared.Refusal.{Refusal}
 use Rattle.rows.specs.Rows.{row_text, rows_text}
 use Rattle.rows.specs.Lines.{Lines}
 use Rattle.rows.proofs.Laws.{by_room, by_judge, text_is}
@@ -40,11 +41,11 @@ routing_a : Routing (job_a 0) (1 ∷ 2 ∷ 1 ∷ [])
 routing_a = (to-first (job_a 0) (1 ∷ 2 ∷ 1 ∷ []) (subst (Settled (routings (job_a 0)) 3 []) searched_worked.0 (settled (routings (job_a 0)) 3 [])).0).routing
 
 module _ (old : List ℕ) where
-  pub only_a : 48 ≤ length old → (a : Answer) (new : List ℕ) → Lines file_a (1 ∷ 2 ∷ 1 ∷ []) old a new → (a ≡ Text 24) × (new ≡ rows_a ++ drop 24 old)
+  pub only_a : 48 ≤ length old → (a : Result ℕ Refusal) (new : List ℕ) → Lines file_a (1 ∷ 2 ∷ 1 ∷ []) old a new → (a ≡ Ok 24) × (new ≡ rows_a ++ drop 24 old)
   only_a h a new g = rw rows_a_lem at (text_is file_a (1 ∷ 2 ∷ 1 ∷ []) old (job_a 0) of_a routing_a h a new g)
 
-  pub refused_a : 48 ≤ length old → Lines file_a (1 ∷ 1 ∷ 1 ∷ []) old (Refused 11 2) old
+  pub refused_a : 48 ≤ length old → Lines file_a (1 ∷ 1 ∷ 1 ∷ []) old (Err (record { reason = reason.Routing; place = 2 })) old
   refused_a h = (by_judge file_a (1 ∷ 1 ∷ 1 ∷ []) (length old) h 11 2 collides_a, refl)
 
-  pub short_a : length old < 48 → (q : List ℕ) → Lines file_a q old (Refused 9 0) old
+  pub short_a : length old < 48 → (q : List ℕ) → Lines file_a q old (Err (record { reason = reason.Room; place = 0 })) old
   short_a h q = (by_room file_a q (length old) (facts_of file_a (job_a 0) of_a) h, refl)

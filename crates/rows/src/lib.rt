@@ -3,17 +3,16 @@
 #![tactic(auto)]
 
 ghost use Rattle.std.specs.Prelude.{◌+◌, ◌*◌, ◌≤◌, length};
-ghost use Rattle.text.specs.Text.{Wrote};
+ghost use Rattle.text.specs.Text.{Puts};
 ghost use Rattle.channel.specs.Routing.{Routing};
 ghost use Rattle.jobfile.specs.Rows.{job_of};
-ghost use Rattle.jobfile.specs.Facts.{Facts};
 ghost use Rattle.rows.specs.Rows.{row_room, row_text, rows_text};
 ghost use Rattle.rows.specs.Lines.{Lines};
 
 use channel::Label;
-use jobfile::Read;
-use judge::Judgement;
-use text::wide;
+use jobfile::JobFile;
+use refusals::{Reason, Refusal};
+use text::Writer;
 
 // How many digits a number below 1,000 has at most, less one.
 pub const SMALL: u8 = 2;
@@ -21,77 +20,48 @@ pub const SMALL: u8 = 2;
 // Room for a connection's line.
 pub const ROW: usize = 16;
 
-// What a brought routing's lines are: the text's length, or refused by a row of the table at a place.
-#[derive(Clone, Copy)]
-pub enum Answer {
-    Text(usize),
-    Refused { number: u8, place: usize },
-}
-
 // A connection's line: connection, track, first and last occupied segment.
-fn put_row(buf: &mut [u8], at: usize, i: usize, label: usize, first: usize, last: usize) -> usize
-    requires { at + row_room ≤ length buf.old }
-    ensures wrote { Wrote buf.old at (row_text i label first last) buf.new result }
-    ensures upper_bound { result ≤ at + row_room }
+fn put_row(out: &mut Writer, i: usize, label: usize, first: usize, last: usize)
+    requires { out.old.at + row_room ≤ length out.old.buf.now }
+    ensures wrote { Puts out.old (row_text i label first last) out.new }
+    ensures upper_bound { out.new.at ≤ out.old.at + row_room }
 {
-    let mut to = text::put_digits(buf, at, i, SMALL);
-    to = text::put(buf, to, b' ');
-    to = text::put_digits(buf, to, label, SMALL);
-    to = text::put(buf, to, b' ');
-    to = text::put_digits(buf, to, first, SMALL);
-    to = text::put(buf, to, b' ');
-    to = text::put_digits(buf, to, last, SMALL);
-    text::put(buf, to, b'\n')
+    out.put_digits(i, SMALL);
+    out.put(b' ');
+    out.put_digits(label, SMALL);
+    out.put(b' ');
+    out.put_digits(first, SMALL);
+    out.put(b' ');
+    out.put_digits(last, SMALL);
+    out.put(b'\n');
 }
 
 // The lines of the connections on the tracks of a routing, in order: only between crates, for it has a `requires`. Of the table of occupied segments
 // only one cell a connection is wanted, that of its label's track, so no table is made. A cell's segments are counted from 0, a line's from 1.
-pub fn put_rows(buf: &mut [u8], at: usize, file: &[u8], labels: &[u8]) -> usize
-    requires { Facts file.now × Routing (job_of file.now) labels.now × (at + length labels.now * row_room ≤ length buf.old) }
-    ensures wrote { Wrote buf.old at (rows_text (job_of file.now) labels.now (length labels.now)) buf.new result }
-    ensures upper_bound { result ≤ at + length labels.now * row_room }
+pub fn put_rows(out: &mut Writer, job: &JobFile, labels: &[u8])
+    requires { Routing (job_of job.now.bytes.now) labels.now × (out.old.at + length labels.now * row_room ≤ length out.old.buf.now) }
+    ensures wrote { Puts out.old (rows_text (job_of job.now.bytes.now) labels.now (length labels.now)) out.new }
+    ensures upper_bound { out.new.at ≤ out.old.at + length labels.now * row_room }
 {
-    let heads = jobfile::starts(file);
-    let mut to = at;
-    let mut i = 0;
-    while i < labels.len() {
-        let run = occupancy::bounds_on(file, &heads, Label(labels[i]), i);
-        let first = wide(run.first) + 1;
-        let last = wide(run.last) + 1;
-        to = put_row(buf, to, i + 1, wide(labels[i]), first, last);
-        i += 1;
+    let heads = job.starts();
+    for (i, &label) in labels.iter().enumerate() {
+        let run = occupancy::bounds_on(job, &heads, Label(label), i);
+        let first = usize::from(run.first) + 1;
+        let last = usize::from(run.last) + 1;
+        put_row(out, i + 1, usize::from(label), first, last);
     }
-    to
 }
 
-// Writes the lines of a brought routing to the front of the text. The rest stays; a refusal changes nothing.
-pub fn rows(file: &[u8], labels: &[u8], text: &mut [u8]) -> Answer
+// Writes the lines of a brought routing to the front of the text, and tells their length. The rest stays; a refusal changes nothing.
+pub fn rows(file: &[u8], labels: &[u8], text: &mut [u8]) -> Result<usize, Refusal>
     ensures { Lines file.now labels.now text.old result text.new }
 {
-    match jobfile::read_job(file) {
-        Read::Job {
-            columns: _,
-            tracks: _,
-            connections: m,
-            limit: _,
-        } => {
-            if text.len() < wide(m) * ROW {
-                return Answer::Refused {
-                    number: 9,
-                    place: 0,
-                };
-            }
-            match judge::judge(file, labels) {
-                Judgement::Legal => Answer::Text(put_rows(text, 0, file, labels)),
-                Judgement::Refused { number, place } => Answer::Refused { number, place },
-            }
-        }
-        Read::Refused {
-            number: n,
-            place: p,
-        } => Answer::Refused {
-            number: n,
-            place: p,
-        },
+    let job = JobFile::read(file)?;
+    if text.len() < usize::from(job.sizes.connections) * ROW {
+        return Err(Reason::Room.at(0));
     }
+    judge::judge_job(&job, labels)?;
+    let mut out = Writer { buf: text, at: 0 };
+    put_rows(&mut out, &job, labels);
+    Ok(out.at)
 }

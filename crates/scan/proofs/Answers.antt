@@ -3,11 +3,12 @@
 use mathlib.Core.Path.{◌≡◌, refl, sym, ap, subst, ◌∙◌}
 use mathlib.Core.Bool.{Bool, true, false, cond, not, ◌||◌}
 use mathlib.Core.List.{List, [], ◌∷◌}
-use Prim.Native.Nat.{ℕ, ◌+◌, ◌≤◌, ◌<◌}
+use Prim.Native.Nat.{ℕ, zero, suc, ◌+◌, ◌≤◌, ◌<◌}
 use native.Mathlib.Omega.{arith}
 use lib.Dec.{eqb, leb}
 use lib.ListN.{length, get_or, length-map}
 use borrow.Author.Tests.{le-leb, lt-leb}
+use Rattle.std.specs.Prelude.{Option, Some, None, Result, Ok, Err}
 use Rattle.facts.proofs.Bools.{not-both}
 use Rattle.dimacs.specs.Clause.{Literal, Clause}
 use Rattle.dimacs.specs.Reply.{Word}
@@ -18,8 +19,8 @@ use Rattle.dimacs.proofs.Meaning.{place7_wrong, place7_missing, place7-none, che
 use Rattle.dimacs.proofs.Positive.{reply_missing}
 use Rattle.dimacs.proofs.Searches.{all_there_lem}
 use Rattle.scan.specs.declared.Answer.{Answer}
-use Rattle.scan.specs.declared.Answer.TheVariants.{Refused, Claimed, Unknown, Sat}
-use Rattle.scan.specs.Marks.{brief, mark_of, Done}
+use Rattle.scan.specs.declared.Answer.TheVariants.{Claimed, Unknown, Sat}
+use Rattle.scan.specs.Marks.{brief, mark_of, place_of, Done}
 
 -- the mark of a variable that is among the literals: 1 where the model holds it, 2 where not
 mark_holds : (xs : List Literal) (v : ℕ) → among v (variables xs) ≡ true → mark_of xs v ≡ cond (holds xs v) 1 2
@@ -38,11 +39,11 @@ pub record ModelMarks (top : ℕ) (seen : List ℕ) (xs : List Literal) : Type 0
   pub mark : (v : ℕ) → 1 ≤ v → v ≤ top → get_or seen v 0 ≡ cond (holds xs v) 1 2
 
 -- the answer of row 6 tells what the text says
-abbrev ParsedAs : Answer → Parsed → Type 0
-ParsedAs (Refused p) a = a ≡ Refused6 p
-ParsedAs Claimed a = a ≡ Unsat
-ParsedAs Unknown a = a ≡ Unsure
-ParsedAs (Sat k) a = (zs : List Word) × (a ≡ SatAs zs) × (k ≡ length (before_nought zs))
+abbrev ParsedAs : Result Answer ℕ → Parsed → Type 0
+ParsedAs (Err p) a = a ≡ Refused6 p
+ParsedAs (Ok Claimed) a = a ≡ Unsat
+ParsedAs (Ok Unknown) a = a ≡ Unsure
+ParsedAs (Ok (Sat k)) a = (zs : List Word) × (a ≡ SatAs zs) × (k ≡ length (before_nought zs))
 
 brief_parsed : (a : Parsed) → ParsedAs (brief a) a
 unfolding brief
@@ -51,23 +52,31 @@ brief_parsed (SatAs zs) = (zs, refl, refl)
 brief_parsed Unsat = refl
 brief_parsed Unsure = refl
 
-module _ (text : List ℕ) (top : ℕ) (answer : Answer) (wrong : ℕ) (seen : List ℕ) (d : Done text top answer wrong seen) (cs : List Clause) where
-  parsed : {x : Answer} → answer ≡ x → ParsedAs x (answer_of text)
+place_some : (n p : ℕ) → place_of n ≡ Some p → (n ≡ p) × (p ≡ 0 → ⊥)
+place_some zero p e = cc
+place_some (suc n) p e = let k : suc n ≡ p = cc in (k, λ z. absurd (omega arith))
+
+place-none : (n : ℕ) → place_of n ≡ None → n ≡ 0
+place-none zero e = refl
+place-none (suc n) e = cc
+
+module _ (text : List ℕ) (top : ℕ) (answer : Result Answer ℕ) (wrong : Option ℕ) (seen : List ℕ) (d : Done text top answer wrong seen) (cs : List Clause) where
+  parsed : {x : Result Answer ℕ} → answer ≡ x → ParsedAs x (answer_of text)
   parsed e = subst (λ x. ParsedAs x (answer_of text)) (sym d.says_answer ∙ e) (brief_parsed (answer_of text))
 
-  pub reads_refused : (p : ℕ) → answer ≡ Refused p → reply_of top cs text ≡ RefusedBy 6 p
+  pub reads_refused : (p : ℕ) → answer ≡ Err p → reply_of top cs text ≡ RefusedBy 6 p
   unfolding reply_of replied
   reads_refused p e = ap (replied top cs) (parsed e)
 
-  pub reads_claimed : answer ≡ Claimed → reply_of top cs text ≡ ClaimedAs
+  pub reads_claimed : answer ≡ Ok Claimed → reply_of top cs text ≡ ClaimedAs
   unfolding reply_of replied
   reads_claimed e = ap (replied top cs) (parsed e)
 
-  pub reads_unknown : answer ≡ Unknown → reply_of top cs text ≡ UnknownAs
+  pub reads_unknown : answer ≡ Ok Unknown → reply_of top cs text ≡ UnknownAs
   unfolding reply_of replied
   reads_unknown e = ap (replied top cs) (parsed e)
 
-  module _ (k : ℕ) (e : answer ≡ Sat k) where
+  module _ (k : ℕ) (e : answer ≡ Ok (Sat k)) where
     abbrev zs : List Word
     zs = (parsed e).0
 
@@ -85,14 +94,14 @@ module _ (text : List ℕ) (top : ℕ) (answer : Answer) (wrong : ℕ) (seen : L
     count_is = length-map xs (λ x. x.variable) ∙ sym (parsed e).2
 
     -- a variable above V or seen before
-    pub reads_wrong : (wrong ≡ 0 → ⊥) → reply_of top cs text ≡ RefusedBy 7 wrong
-    reads_wrong z =
-        let f = d.first zs says in
-        replied_is ∙ checked_7 top cs xs wrong (place7_wrong top (variables xs) (λ g. z (f ∙ g)) ∙ sym f) z
+    pub reads_wrong : (p : ℕ) → wrong ≡ Some p → reply_of top cs text ≡ RefusedBy 7 p
+    reads_wrong p w =
+        let f = place_some (first_wrong top [] 1 (variables xs)) p (sym (d.first zs says) ∙ w) in
+        replied_is ∙ checked_7 top cs xs p (place7_wrong top (variables xs) (λ g. f.1 (sym f.0 ∙ g)) ∙ f.0) f.1
 
-    module _ (w : wrong ≡ 0) where
+    module _ (w : wrong ≡ None) where
       none_wrong : first_wrong top [] 1 (variables xs) ≡ 0
-      none_wrong = sym (d.first zs says) ∙ w
+      none_wrong = place-none (first_wrong top [] 1 (variables xs)) (sym (d.first zs says) ∙ w)
 
       counts : all_there top (variables xs) ≡ leb top k
       counts = reply_missing text zs top says none_wrong ∙ ap (leb top) count_is

@@ -9,6 +9,7 @@ use lib.Dec.{eqb, leb, ltb, leb-zero, leb-suc-suc, leb-suc-zero}
 use lib.ListN.{length, get_or, take, drop, length-drop}
 use lib.Seq.{take-suc, get_or-drop}
 use borrow.Author.Tests.{eqb-true, ne_eqb, leb-true, lt-ltb, le-ltb, ltb-true, ltb-false}
+use Rattle.std.specs.Prelude.{Option, Some, None}
 use Rattle.facts.specs.Same.{same}
 use Rattle.facts.proofs.Bools.{both}
 use Rattle.dimacs.specs.Reply.{onto, split, every, is_digit, Word, stop, lit, is_number, decimal, is_literal, literal, unsigned, negative, Line, bad, quiet, gives, status_line, value_line, tagged, line_of, literals}
@@ -17,9 +18,9 @@ use Rattle.dimacs.proofs.Words.{split-cons}
 use Rattle.scan.specs.declared.line.Mode.{Mode}
 use Rattle.scan.specs.declared.line.Mode.TheVariants.{Start, LetterC, Comment, LetterS, Said, LetterV, Gap, Minus, Number, Zero, Bad}
 use Rattle.scan.specs.declared.line.Lit.{Lit}
-use Rattle.scan.specs.declared.line.Lit.TheVariants.{Nothing, Stop, Var}
-use Rattle.scan.specs.Line.{start_mode, blank_mode, is_leading, leading_mode, gap_mode, number_mode, step_mode, mode_literal, line_code, ModeAt, bytes_from, mode_code}
-use Rattle.scan.proofs.Codes.{status_blank, has_in}
+use Rattle.scan.specs.declared.line.Lit.TheVariants.{Stop, Var}
+use Rattle.scan.specs.Line.{start_mode, blank_mode, is_leading, leading_mode, gap_mode, number_mode, step_mode, mode_literal, line_kind, ModeAt, bytes_from, mode_kind}
+use Rattle.scan.proofs.StatusWords.{status_blank, has_in}
 use Rattle.scan.proofs.Outcome.{Moves, still, silent, value_moves}
 
 -- a literal of the variable v
@@ -71,10 +72,10 @@ abbrev cut1 : ℕ → List (List ℕ) → List (List ℕ)
 cut1 b ws = cond (eqb b 32) ([] ∷ ws) (onto b ws)
 
 -- the words that end at a byte within a line: at a blank, that of the mode
-unfoldable pub list_of : Lit → List Word
-list_of Nothing = []
-list_of Stop = stop ∷ []
-list_of (Var n v) = signed n v ∷ []
+unfoldable pub list_of : Option Lit → List Word
+list_of None = []
+list_of (Some Stop) = stop ∷ []
+list_of (Some (Var n v)) = signed n v ∷ []
 
 abbrev pub emits : Mode → ℕ → List Word
 emits m b = cond (eqb b 32) (list_of (mode_literal m)) []
@@ -286,8 +287,8 @@ mode_step Zero b i h = mode_cond (eqb b 32) _ _ (i + 1) tt tt
 mode_step Bad b i h = tt
 
 -- THE END OF A LINE: what it comes to and its last word are what the mode says
-pub line_ends : (t : List ℕ) (i : ℕ) (m : Mode) → (mode_code t m i ≡ line_code (words t i m ([] ∷ []))) × (list_of (mode_literal m) ≡ literals (words t i m ([] ∷ []) ∷ []))
-unfolding line_code words begun glued onto tagged status_line value_line number_line same every is_literal literal unsigned is_number decimal list_of literals
+pub line_ends : (t : List ℕ) (i : ℕ) (m : Mode) → (mode_kind t m i ≡ line_kind (words t i m ([] ∷ []))) × (list_of (mode_literal m) ≡ literals (words t i m ([] ∷ []) ∷ []))
+unfolding line_kind words begun glued onto tagged status_line value_line number_line same every is_literal literal unsigned is_number decimal list_of literals
 line_ends t i Start = (refl, refl)
 line_ends t i LetterC = (refl, refl)
 line_ends t i Comment = (refl, refl)

@@ -1,4 +1,4 @@
-pub mod Codes
+pub mod StatusWords
 pub mod Outcome
 pub mod Automaton
 pub mod Counts

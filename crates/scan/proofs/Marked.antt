@@ -7,17 +7,24 @@ use Prim.Native.Nat.{ℕ, ◌+◌, ◌≤◌, ◌<◌}
 use native.Mathlib.Omega.{arith}
 use lib.Dec.{eqb}
 use lib.ListN.{length, get_or, replicate, length-replicate, get_or-replicate}
+use Rattle.std.specs.Prelude.{Option, None, Result}
 use Rattle.dimacs.specs.Reply.{Word}
 use Rattle.dimacs.specs.Model.{before_nought}
 use Rattle.dimacs.specs.Decision.{answer_of, Sat}
 use Rattle.channel.specs.Limits.{most_variables, most_values}
 use Rattle.scan.specs.declared.line.Lit.{Lit}
+use Rattle.scan.specs.declared.line.Kind.TheVariants as kind
+use Rattle.scan.specs.declared.tally.Statuses.{Statuses}
+use Rattle.scan.specs.declared.tally.Statuses.TheVariants.{Nothing}
+use Rattle.scan.specs.declared.tally.Shut.TheVariants.{Open}
+use Rattle.scan.specs.declared.tally.Tally.{Tally}
+use Rattle.scan.specs.declared.seen.Seen.{Seen}
 use Rattle.scan.specs.declared.Answer.{Answer}
 use Rattle.scan.specs.declared.line.Mode.{Mode}
 use Rattle.scan.specs.declared.line.Mode.TheVariants.{Start, Bad}
-use Rattle.scan.specs.Line.{mode_literal, ended_literal, step_mode, mode_code}
-use Rattle.scan.specs.Tally.{Tally, tally_after, count_after, shut_after, said_after, told_at_end}
-use Rattle.scan.specs.Seen.{Seen, seen_as, marked_lit}
+use Rattle.scan.specs.Line.{mode_literal, ended_literal, step_mode, mode_kind}
+use Rattle.scan.specs.Tally.{tally_after, said_after, told_at_end}
+use Rattle.scan.specs.Seen.{seen_as, marked_lit}
 use Rattle.scan.specs.Marks.{mark_of, Done}
 use Rattle.scan.proofs.Automaton.{list_of}
 use Rattle.scan.proofs.Counts.{tally}
@@ -27,43 +34,43 @@ use Rattle.scan.proofs.Folds.{seen_at, seen_lit}
 
 -- no variable was seen
 abbrev none_seen : Seen
-none_seen = seen_as (replicate most_values 0) 0
+none_seen = seen_as (replicate most_values 0) None
 
-pub record Reached (t : List ℕ) (top : ℕ) (s : Seen) (m : Mode) (number said : ℕ) (tl : Tally) (i : ℕ) : Type 0 where
+pub record Reached (t : List ℕ) (top : ℕ) (s : Seen) (m : Mode) (number : ℕ) (said : Statuses) (tl : Tally) (i : ℕ) : Type 0 where
   pub xs : List Word
   pub right : Right t xs m number said tl i
   pub seen_is : s ≡ seen_at top none_seen xs
 
-pub reached_start : (t : List ℕ) (top : ℕ) → Reached t top none_seen Start 1 0 (tally 0 0) 0
+pub reached_start : (t : List ℕ) (top : ℕ) → Reached t top none_seen Start 1 Nothing (tally 0 Open) 0
 unfolding seen_after before_nought
 reached_start t top = record { xs = []; right = start_right t; seen_is = refl }
 
-module _ {t : List ℕ} {top : ℕ} {s : Seen} {m : Mode} {number said : ℕ} {tl : Tally} {i : ℕ} (r : Reached t top s m number said tl i) where
-  seen_next : (l : Lit) → marked_lit s tl top l ≡ seen_at top none_seen (r.xs ++ list_of l)
+module _ {t : List ℕ} {top : ℕ} {s : Seen} {m : Mode} {number : ℕ} {said : Statuses} {tl : Tally} {i : ℕ} (r : Reached t top s m number said tl i) where
+  seen_next : (l : Option Lit) → marked_lit s tl top l ≡ seen_at top none_seen (r.xs ++ list_of l)
   seen_next l = (λ j. marked_lit (r.seen_is j) (r.right.notes j) top l) ∙ seen_lit top none_seen r.xs l
 
   -- one byte on, where the loop comes to a mode, a line's number and the `s` lines
-  abbrev here : Lit
+  abbrev here : Option Lit
   here = ended_literal m (get_or t i 0)
 
-  abbrev Onward : Mode → ℕ → ℕ → Type 0
+  abbrev Onward : Mode → ℕ → Statuses → Type 0
   Onward m' number' said' = Reached t top (marked_lit s tl top here) m' number' said' (tally_after tl here) (i + 1)
 
-  onward : {m' : Mode} {number' said' : ℕ} → Right t (r.xs ++ list_of here) m' number' said' (tally_after tl here) (i + 1) → Onward m' number' said'
+  onward : {m' : Mode} {number' : ℕ} {said' : Statuses} → Right t (r.xs ++ list_of here) m' number' said' (tally_after tl here) (i + 1) → Onward m' number' said'
   onward k = record { xs = r.xs ++ list_of here; right = k; seen_is = seen_next here }
 
-  pub reached_bad : i < length t → get_or t i 0 ≡ 10 → mode_code t m i ≡ 0 → Onward Bad number said
+  pub reached_bad : i < length t → get_or t i 0 ≡ 10 → mode_kind t m i ≡ kind.Bad → Onward Bad number said
   reached_bad k e c = onward (bad_line_right r.right k e c)
 
-  pub reached_line : i < length t → get_or t i 0 ≡ 10 → (mode_code t m i ≡ 0 → ⊥) → Onward Start (number + 1) (said_after said (mode_code t m i))
+  pub reached_line : i < length t → get_or t i 0 ≡ 10 → (mode_kind t m i ≡ kind.Bad → ⊥) → Onward Start (number + 1) (said_after said (mode_kind t m i))
   reached_line k e c = onward (good_line_right r.right k e c)
 
   pub reached_byte : i < length t → (get_or t i 0 ≡ 10 → ⊥) → Onward (step_mode m (get_or t i 0) (i + 1)) number said
   reached_byte k n = onward (in_line_right r.right k n)
 
   -- what the calls of a turn of the loop gave
-  pub arrive : {m'' : Mode} {number'' said'' : ℕ} → Onward m'' number'' said'' → {l : Lit} → l ≡ here → {s' : Seen} {count' shut' number' said' : ℕ} {m' : Mode} → s' ≡ marked_lit s tl top l → count' ≡ count_after tl.count tl.shut l → shut' ≡ shut_after tl.shut l → m' ≡ m'' → number' ≡ number'' → said' ≡ said'' → Reached t top s' m' number' said' (tally count' shut') (i + 1)
-  arrive o e w c h f g k = rw (w, c, h, f, g, k, e) o
+  pub arrive : {m'' : Mode} {number'' : ℕ} {said'' : Statuses} → Onward m'' number'' said'' → {l : Option Lit} → l ≡ here → {s' : Seen} {tl' : Tally} {number' : ℕ} {said' : Statuses} {m' : Mode} → s' ≡ marked_lit s tl top l → tl' ≡ tally_after tl l → m' ≡ m'' → number' ≡ number'' → said' ≡ said'' → Reached t top s' m' number' said' tl' (i + 1)
+  arrive o e w c f g k = rw (w, c, f, g, k, e) o
 
   -- what is seen at the end, if the answer is SATISFIABLE
   seen_all : i ≡ length t → (zs : List Word) → answer_of t ≡ Sat zs → marked_lit s tl top (mode_literal m) ≡ seen_at top none_seen zs
@@ -82,5 +89,5 @@ module _ {t : List ℕ} {top : ℕ} {s : Seen} {m : Mode} {number said : ℕ} {t
       }
 
   -- and those after the loop
-  pub finish : i ≡ length t → top ≤ most_variables → {l : Lit} → l ≡ mode_literal m → {s' : Seen} {answer : Answer} → s' ≡ marked_lit s tl top l → answer ≡ told_at_end t m i number said tl → Done t top answer s'.wrong s'.marks
+  pub finish : i ≡ length t → top ≤ most_variables → {l : Option Lit} → l ≡ mode_literal m → {s' : Seen} {answer : Result Answer ℕ} → s' ≡ marked_lit s tl top l → answer ≡ told_at_end t m i number said tl → Done t top answer s'.wrong s'.marks
   finish k h e w a = rw (a, w, e) (reached_end k h)

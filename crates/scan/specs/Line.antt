@@ -1,11 +1,16 @@
 -- Stepping stones: a line of a reply, byte by byte, as the code of `line` has it. `words_step` and `line_ends` (proofs/Automaton.antt) say that mode and byte
 -- go along with `line_of` of crate dimacs. Assumes nothing: these are definitions.
-use Rattle.std.specs.Prelude.{Bool, true, false, cond, ◌&&◌, List, ℕ, ◌+◌, ◌-◌, ◌*◌, ◌≤◌, eqb, leb, ltb, take, drop}
-use Rattle.dimacs.specs.Reply.{is_digit, Status, satisfiable, unsatisfiable, unknown, Line, bad, quiet, says, gives, status_word}
+use Rattle.std.specs.Prelude.{Bool, true, false, cond, ◌&&◌, List, ℕ, ◌+◌, ◌-◌, ◌*◌, ◌≤◌, eqb, leb, ltb, take, drop, Option, Some, None}
+use Rattle.dimacs.specs.Reply.{is_digit, Line, bad, quiet, says, gives, status_word}
+use Rattle.dimacs.specs.Reply.{Status as StatusAs, satisfiable, unsatisfiable, unknown}
 use Rattle.scan.specs.declared.line.Mode.{Mode}
 use Rattle.scan.specs.declared.line.Mode.TheVariants.{Start, LetterC, Comment, LetterS, Said, LetterV, Gap, Minus, Number, Zero, Bad}
 use Rattle.scan.specs.declared.line.Lit.{Lit}
-use Rattle.scan.specs.declared.line.Lit.TheVariants.{Nothing, Stop, Var}
+use Rattle.scan.specs.declared.line.Lit.TheVariants.{Stop, Var}
+use Rattle.scan.specs.declared.line.Status.{Status}
+use Rattle.scan.specs.declared.line.Status.TheVariants.{Satisfiable, Unsatisfiable, Unknown}
+use Rattle.scan.specs.declared.line.Kind.{Kind}
+use Rattle.scan.specs.declared.line.Kind.TheVariants as kind
 
 -- the first byte of a line
 abbrev pub start_mode : ℕ → Mode
@@ -45,36 +50,36 @@ step_mode (Number n v) b next = number_mode n v b
 step_mode Zero b next = blank_mode b Gap
 step_mode Bad b next = Bad
 
--- the literal that ends where a word ends
-abbrev pub mode_literal : Mode → Lit
-mode_literal Start = Nothing
-mode_literal LetterC = Nothing
-mode_literal Comment = Nothing
-mode_literal LetterS = Nothing
-mode_literal (Said from) = Nothing
-mode_literal LetterV = Nothing
-mode_literal Gap = Nothing
-mode_literal Minus = Nothing
-mode_literal (Number n v) = Var n v
-mode_literal Zero = Stop
-mode_literal Bad = Nothing
+-- the literal that ends where a word ends, if one does
+abbrev pub mode_literal : Mode → Option Lit
+mode_literal Start = None
+mode_literal LetterC = None
+mode_literal Comment = None
+mode_literal LetterS = None
+mode_literal (Said from) = None
+mode_literal LetterV = None
+mode_literal Gap = None
+mode_literal Minus = None
+mode_literal (Number n v) = Some (Var n v)
+mode_literal Zero = Some Stop
+mode_literal Bad = None
 
 -- the literal that ends at the byte b, if one does: LF and a blank end a word
-abbrev pub ended_literal : Mode → ℕ → Lit
-ended_literal m b = cond (eqb b 10) (mode_literal m) (cond (eqb b 32) (mode_literal m) Nothing)
+abbrev pub ended_literal : Mode → ℕ → Option Lit
+ended_literal m b = cond (eqb b 10) (mode_literal m) (cond (eqb b 32) (mode_literal m) None)
 
--- the number of a status
-abbrev pub status_number : Status → ℕ
-status_number satisfiable = 1
-status_number unsatisfiable = 2
-status_number unknown = 3
+-- a status as the code has it
+abbrev pub status_as : StatusAs → Status
+status_as satisfiable = Satisfiable
+status_as unsatisfiable = Unsatisfiable
+status_as unknown = Unknown
 
--- what a line comes to: 0 for not well-formed, the number of its status for an `s` line, 4 for any other
-unfoldable pub line_code : Line → ℕ
-line_code bad = 0
-line_code quiet = 4
-line_code (says s) = status_number s
-line_code (gives xs) = 4
+-- what a line comes to: not well-formed, an `s` line with its status, any other
+unfoldable pub line_kind : Line → Kind
+line_kind bad = kind.Bad
+line_kind quiet = kind.Other
+line_kind (says s) = kind.Says (status_as s)
+line_kind (gives xs) = kind.Other
 
 -- a mode at the place i: a status word starts there or before, and a number is not 0
 abbrev pub ModeAt : Mode → ℕ → Type 0
@@ -95,15 +100,15 @@ abbrev pub bytes_from : ℕ → ℕ → List ℕ → List ℕ
 bytes_from from i text = take (i - from) (drop from text)
 
 -- what a line comes to that ends at the place i, by its mode
-abbrev pub mode_code : List ℕ → Mode → ℕ → ℕ
-mode_code text Start i = 4
-mode_code text LetterC i = 4
-mode_code text Comment i = 4
-mode_code text LetterS i = 0
-mode_code text (Said from) i = line_code (status_word (bytes_from from i text))
-mode_code text LetterV i = 0
-mode_code text Gap i = 0
-mode_code text Minus i = 0
-mode_code text (Number n v) i = 4
-mode_code text Zero i = 4
-mode_code text Bad i = 0
+abbrev pub mode_kind : List ℕ → Mode → ℕ → Kind
+mode_kind text Start i = kind.Other
+mode_kind text LetterC i = kind.Other
+mode_kind text Comment i = kind.Other
+mode_kind text LetterS i = kind.Bad
+mode_kind text (Said from) i = line_kind (status_word (bytes_from from i text))
+mode_kind text LetterV i = kind.Bad
+mode_kind text Gap i = kind.Bad
+mode_kind text Minus i = kind.Bad
+mode_kind text (Number n v) i = kind.Other
+mode_kind text Zero i = kind.Other
+mode_kind text Bad i = kind.Bad

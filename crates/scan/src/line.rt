@@ -2,10 +2,10 @@
 // the line, what the line comes to.
 ghost use Rattle.std.specs.Prelude.{◌≡◌, ◌≤◌, length};
 ghost use Rattle.dimacs.specs.Reply.{status_word};
-ghost use Rattle.scan.specs.Line.{start_mode, blank_mode, leading_mode, gap_mode, number_mode, step_mode, mode_literal, ended_literal, line_code, ModeAt, mode_code};
+ghost use Rattle.scan.specs.Line.{start_mode, blank_mode, leading_mode, gap_mode, number_mode, step_mode, mode_literal, ended_literal, line_kind, ModeAt, mode_kind};
 
 // What was read of a line.
-#[derive(Clone, Copy)]
+#[derive(Clone, Copy, Debug, PartialEq, Eq)]
 pub enum Mode {
     // nothing
     Start,
@@ -29,6 +29,29 @@ pub enum Mode {
     Zero,
     // no line begins so
     Bad,
+}
+
+// A literal of a `v` line: `0`, or a variable, negated or not.
+#[derive(Clone, Copy, Debug, PartialEq, Eq)]
+pub enum Lit {
+    Stop,
+    Var(bool, usize),
+}
+
+// The three words of an `s` line.
+#[derive(Clone, Copy, Debug, PartialEq, Eq)]
+pub enum Status {
+    Satisfiable,
+    Unsatisfiable,
+    Unknown,
+}
+
+// What a line comes to: not well-formed, an `s` line with a status, any other.
+#[derive(Clone, Copy, Debug, PartialEq, Eq)]
+pub enum Kind {
+    Bad,
+    Says(Status),
+    Other,
 }
 
 // The first byte of a line.
@@ -58,7 +81,7 @@ fn leading(negated: bool, b: u8) -> Mode
     ensures { result ≡ leading_mode negated b }
 {
     match b {
-        b'1'..=b'9' => Mode::Number(negated, text::wide(b) - 48),
+        b'1'..=b'9' => Mode::Number(negated, usize::from(b - b'0')),
         _ => Mode::Bad,
     }
 }
@@ -82,7 +105,7 @@ fn number(negated: bool, v: usize, b: u8) -> Mode
         b' ' => Mode::Gap,
         b'0'..=b'9' => {
             if v < 100 {
-                Mode::Number(negated, v * 10 + (text::wide(b) - 48))
+                Mode::Number(negated, v * 10 + usize::from(b - b'0'))
             } else {
                 Mode::Bad
             }
@@ -91,81 +114,75 @@ fn number(negated: bool, v: usize, b: u8) -> Mode
     }
 }
 
-// One byte on; next is the place after it.
-pub fn step(m: Mode, b: u8, next: usize) -> Mode
-    ensures { result ≡ step_mode m b next }
+// What the word of an `s` line comes to.
+fn word(w: &[u8]) -> Kind
+    ensures { result ≡ line_kind (status_word w.now) }
 {
-    match m {
-        Mode::Start => start(b),
-        Mode::LetterC => only_blank(b, Mode::Comment),
-        Mode::Comment => Mode::Comment,
-        Mode::LetterS => only_blank(b, Mode::Said(next)),
-        Mode::Said(from) => Mode::Said(from),
-        Mode::LetterV => only_blank(b, Mode::Gap),
-        Mode::Gap => gap(b),
-        Mode::Minus => leading(true, b),
-        Mode::Number(negated, v) => number(negated, v, b),
-        Mode::Zero => only_blank(b, Mode::Gap),
-        Mode::Bad => Mode::Bad,
+    if w == b"SATISFIABLE".as_slice() {
+        Kind::Says(Status::Satisfiable)
+    } else if w == b"UNSATISFIABLE".as_slice() {
+        Kind::Says(Status::Unsatisfiable)
+    } else if w == b"UNKNOWN".as_slice() {
+        Kind::Says(Status::Unknown)
+    } else {
+        Kind::Bad
     }
 }
 
-// A literal of a `v` line, if one ends.
-#[derive(Clone, Copy)]
-pub enum Lit {
-    Nothing,
-    Stop,
-    Var(bool, usize),
-}
+impl Mode {
+    // One byte on; next is the place after it.
+    pub fn step(self, b: u8, next: usize) -> Mode
+        ensures { result ≡ step_mode self b next }
+    {
+        match self {
+            Mode::Start => start(b),
+            Mode::LetterC => only_blank(b, Mode::Comment),
+            Mode::Comment => Mode::Comment,
+            Mode::LetterS => only_blank(b, Mode::Said(next)),
+            Mode::Said(from) => Mode::Said(from),
+            Mode::LetterV => only_blank(b, Mode::Gap),
+            Mode::Gap => gap(b),
+            Mode::Minus => leading(true, b),
+            Mode::Number(negated, v) => number(negated, v, b),
+            Mode::Zero => only_blank(b, Mode::Gap),
+            Mode::Bad => Mode::Bad,
+        }
+    }
 
-// The literal that ends where a word ends, if one does.
-pub fn literal(m: Mode) -> Lit
-    ensures { result ≡ mode_literal m }
-{
-    match m {
-        Mode::Number(negated, v) => Lit::Var(negated, v),
-        Mode::Zero => Lit::Stop,
-        _ => Lit::Nothing,
+    // The literal that ends where a word ends, if one does.
+    pub fn literal(self) -> Option<Lit>
+        ensures { result ≡ mode_literal self }
+    {
+        match self {
+            Mode::Number(negated, v) => Some(Lit::Var(negated, v)),
+            Mode::Zero => Some(Lit::Stop),
+            _ => None,
+        }
     }
-}
 
-// The literal that ends at the byte b, if one does.
-pub fn event(m: Mode, b: u8) -> Lit
-    ensures { result ≡ ended_literal m b }
-{
-    if b == 10 {
-        return literal(m);
+    // The literal that ends at the byte b, if one does.
+    pub fn event(self, b: u8) -> Option<Lit>
+        ensures { result ≡ ended_literal self b }
+    {
+        // Kept: two tests, since one match over both bytes takes some percent longer.
+        if b == b'\n' {
+            return self.literal();
+        }
+        if b == b' ' {
+            return self.literal();
+        }
+        None
     }
-    if b == 32 {
-        return literal(m);
-    }
-    Lit::Nothing
-}
 
-// The status that a word is: 1 to 3, or 0.
-fn status(w: &[u8]) -> u8
-    ensures { result ≡ line_code (status_word w.now) }
-{
-    if check::same(w, b"SATISFIABLE") {
-        return 1;
-    }
-    if check::same(w, b"UNSATISFIABLE") {
-        return 2;
-    }
-    if check::same(w, b"UNKNOWN") {
-        return 3;
-    }
-    0
-}
-
-// What a line comes to that ends at the place i: 0 for not well-formed, 1 to 3 for an `s` line with that status, 4 for any other.
-pub fn ended(text: &[u8], m: Mode, i: usize) -> u8
-    requires { (i ≤ length text.now) × ModeAt m i }
-    ensures { result ≡ mode_code text.now m i }
-{
-    match m {
-        Mode::Said(from) => status(&text[from..i]),
-        Mode::LetterS | Mode::LetterV | Mode::Gap | Mode::Minus | Mode::Bad => 0,
-        _ => 4,
+    // What a line comes to that ends at the place i.
+    pub fn ended(self, text: &[u8], i: usize) -> Kind
+        requires { (i ≤ length text.now) × ModeAt self i }
+        ensures { result ≡ mode_kind text.now self i }
+    {
+        match self {
+            Mode::Said(from) => word(&text[from..i]),
+            Mode::LetterS | Mode::LetterV | Mode::Gap | Mode::Minus | Mode::Bad => Kind::Bad,
+            _ => Kind::Other,
+        }
     }
 }

@@ -1,63 +1,46 @@
-// Row 7: a mark for each variable, 0 for not seen, 1 for plain, 2 for negated, and the first position whose variable is too large or was seen before.
-ghost use Rattle.std.specs.Prelude.{◌≡◌, ◌≤◌, ◌<◌};
-ghost use Rattle.channel.specs.Limits.{most_variables};
+// Row 7: a mark for each variable, and the first position whose variable is too large or was seen before.
+ghost use Rattle.std.specs.Prelude.{◌≡◌, ◌<◌};
 ghost use Rattle.scan.specs.Tally.{last_number};
-ghost use Rattle.scan.specs.Seen.{seen_as, marked, marked_lit};
+ghost use Rattle.scan.specs.Seen.{marked, marked_lit};
 
+use crate::Variables;
 use crate::line::Lit;
+use crate::tally::{Shut, Tally};
 use channel::MOST_VALUES;
 
-// The literal at a position, negated or not, of the variable v, where the variables are 1 to top. wrong is the first position that
-// was too large or seen before, or 0, and is returned anew.
-fn mark(
-    seen: &mut [u8; MOST_VALUES],
-    wrong: usize,
-    position: usize,
-    top: usize,
-    negated: bool,
-    v: usize,
-) -> usize
-    requires { top ≤ most_variables }
-    ensures { seen_as seen.new result ≡ marked (seen_as seen.old wrong) position top negated v }
-{
-    if wrong != 0 {
-        return wrong;
-    }
-    if top < v {
-        return position;
-    }
-    if seen[v] != 0 {
-        return position;
-    }
-    if negated {
-        seen[v] = 2;
-    } else {
-        seen[v] = 1;
-    }
-    0
+// The marks of the variables, and the first wrong position, if one was met.
+// Kept: a mark is a byte, 0 for not seen, 1 for plain, 2 for negated, since `model` reads the marks as bytes.
+#[derive(Clone, Copy)]
+pub struct Seen {
+    pub marks: [u8; MOST_VALUES],
+    pub wrong: Option<usize>,
 }
 
-// A literal that ended, after count others; shut is 0 as long as no `0` was met.
-pub fn mark_literal(
-    seen: &mut [u8; MOST_VALUES],
-    wrong: usize,
-    count: usize,
-    shut: u8,
-    top: usize,
-    l: Lit,
-) -> usize
-    requires { (top ≤ most_variables) × (count < last_number) }
-    ensures { seen_as seen.new result ≡ marked_lit (seen_as seen.old wrong) (record { count = count; shut = shut }) top l }
-{
-    match l {
-        Lit::Nothing => wrong,
-        Lit::Stop => wrong,
-        Lit::Var(n, v) => {
-            if shut == 0 {
-                mark(seen, wrong, count + 1, top, n, v)
+impl Seen {
+    // The literal at a position, negated or not, of the variable v.
+    fn mark(&mut self, position: usize, variables: Variables, negated: bool, v: usize)
+        ensures { self.new ≡ marked self.old position variables.count negated v }
+    {
+        if self.wrong.is_none() {
+            if variables.count < v || self.marks[v] != 0 {
+                self.wrong = Some(position);
             } else {
-                wrong
+                self.marks[v] = if negated { 2 } else { 1 };
             }
+        }
+    }
+
+    // A literal, if one ended, after those that were counted. It counts as long as no `0` was met.
+    pub fn mark_literal(&mut self, before: Tally, variables: Variables, l: Option<Lit>)
+        requires { before.count < last_number }
+        ensures { self.new ≡ marked_lit self.old before variables.count l }
+    {
+        match l {
+            Some(Lit::Var(negated, v)) => match before.shut {
+                Shut::Open => self.mark(before.count + 1, variables, negated, v),
+                Shut::Closed | Shut::Passed => (),
+            },
+            Some(Lit::Stop) | None => (),
         }
     }
 }

@@ -1,101 +1,116 @@
 // What the lines of a reply come to: its `s` lines, the literals before the first `0`, and how `0` shuts them.
-ghost use Rattle.std.specs.Prelude.{◌≡◌, ◌≤◌, ◌<◌, length};
+ghost use Rattle.std.specs.Prelude.{◌≡◌, ◌≤◌, ◌<◌, ◌+◌, length};
 ghost use Rattle.scan.specs.Line.{ModeAt};
-ghost use Rattle.scan.specs.Tally.{last_number, said_after, count_after, shut_after, alone_as, answer_by, told_at_end};
+ghost use Rattle.scan.specs.Tally.{last_number, said_after, tally_after, alone_as, closed_as, by_said, told_at_end};
 
-use crate::line::{Lit, Mode};
-use crate::{Answer, line};
+use crate::Answer;
+use crate::line::{Kind, Lit, Mode, Status};
 
-// The `s` lines after a line of this code: 0 for none, 1 to 3 for the one, 4 for several.
-pub fn said_after(said: u8, code: u8) -> u8
-    ensures { result ≡ said_after said code }
-{
-    if code == 4 {
-        return said;
-    }
-    if said == 0 {
-        return code;
-    }
-    4
+// The `s` lines so far.
+#[derive(Clone, Copy, Debug, PartialEq, Eq)]
+pub enum Statuses {
+    Nothing,
+    One(Status),
+    Several,
 }
 
-// How many literals stand before the first `0`, after one more; shut is as below.
-pub fn count_after(count: usize, shut: u8, l: Lit) -> usize
-    requires { count < last_number }
-    ensures { result ≡ count_after count shut l }
-{
-    match l {
-        Lit::Nothing => count,
-        Lit::Stop => count,
-        Lit::Var(_, _) => { if shut == 0 { count + 1 } else { count } }
-    }
-}
-
-// 0 for no `0` yet, 1 for a `0` that is the last literal, 2 for more after it.
-pub fn shut_after(shut: u8, l: Lit) -> u8
-    ensures { result ≡ shut_after shut l }
-{
-    match l {
-        Lit::Nothing => shut,
-        Lit::Stop => { if shut == 0 { 1 } else { 2 } }
-        Lit::Var(_, _) => { if shut == 0 { 0 } else { 2 } }
-    }
-}
-
-// The answer of a status that goes without literals.
-fn alone(a: Answer, count: usize, shut: u8) -> Answer
-    ensures { result ≡ alone_as a (record { count = count; shut = shut }) }
-{
-    if count == 0 {
-        if shut == 0 {
-            return a;
+impl Statuses {
+    // After a line of this kind.
+    pub fn after(self, kind: Kind) -> Statuses
+        ensures { result ≡ said_after self kind }
+    {
+        match (kind, self) {
+            (Kind::Says(s), Statuses::Nothing) => Statuses::One(s),
+            (Kind::Says(_), _) => Statuses::Several,
+            _ => self,
         }
     }
-    Answer::Refused(0)
 }
 
-// The answer at the end: what the last line came to and its number, the `s` lines, the count of literals, and whether a `0` closed them.
-fn told(code: u8, number: usize, said: u8, count: usize, shut: u8) -> Answer
-    ensures { result ≡ answer_by code number said (record { count = count; shut = shut }) }
-{
-    if code == 0 {
-        return Answer::Refused(number);
-    }
-    match said {
-        1 => {
-            if shut == 1 {
-                Answer::Sat(count)
-            } else {
-                Answer::Refused(0)
-            }
+// How the literals are shut: by no `0` yet, by a `0` that is the last, or with more after it.
+#[derive(Clone, Copy, Debug, PartialEq, Eq)]
+pub enum Shut {
+    Open,
+    Closed,
+    Passed,
+}
+
+// The literals so far: how many stand before the first `0`, and how they are shut.
+#[derive(Clone, Copy, Debug, PartialEq, Eq)]
+pub struct Tally {
+    pub count: usize,
+    pub shut: Shut,
+}
+
+impl Tally {
+    // One literal more, if one ended.
+    pub fn add(&mut self, l: Option<Lit>)
+        requires { self.old.count < last_number }
+        ensures { self.new ≡ tally_after self.old l }
+    {
+        match l {
+            None => (),
+            Some(Lit::Stop) => match self.shut {
+                Shut::Open => self.shut = Shut::Closed,
+                Shut::Closed | Shut::Passed => self.shut = Shut::Passed,
+            },
+            Some(Lit::Var(_, _)) => match self.shut {
+                Shut::Open => self.count += 1,
+                Shut::Closed | Shut::Passed => self.shut = Shut::Passed,
+            },
         }
-        2 => alone(Answer::Claimed, count, shut),
-        3 => alone(Answer::Unknown, count, shut),
-        _ => Answer::Refused(0),
     }
-}
 
-// The text ends at the place i, and with it its last line.
-pub fn at_end(
-    text: &[u8],
-    m: Mode,
-    i: usize,
-    number: usize,
-    said: u8,
-    count: usize,
-    shut: u8,
-) -> Answer
-    requires { (i ≤ length text.now) × ModeAt m i × (count < last_number) }
-    ensures { result ≡ told_at_end text.now m i number said (record { count = count; shut = shut }) }
-{
-    let l = line::literal(m);
-    let code = line::ended(text, m, i);
-    let after = said_after(said, code);
-    told(
-        code,
-        number,
-        after,
-        count_after(count, shut, l),
-        shut_after(shut, l),
-    )
+    // The answer of a status that goes without literals.
+    fn alone(self, a: Answer) -> Result<Answer, usize>
+        ensures { result ≡ alone_as a self }
+    {
+        match self {
+            Tally {
+                count: 0,
+                shut: Shut::Open,
+            } => Ok(a),
+            _ => Err(0),
+        }
+    }
+
+    // The answer of SATISFIABLE: the literals end with a `0`.
+    fn closed(self) -> Result<Answer, usize>
+        ensures { result ≡ closed_as self.count self.shut }
+    {
+        match self.shut {
+            Shut::Closed => Ok(Answer::Sat(self.count)),
+            Shut::Open | Shut::Passed => Err(0),
+        }
+    }
+
+    // The answer, by the `s` lines.
+    fn answer(self, said: Statuses) -> Result<Answer, usize>
+        ensures { result ≡ by_said said self }
+    {
+        match said {
+            Statuses::One(Status::Satisfiable) => self.closed(),
+            Statuses::One(Status::Unsatisfiable) => self.alone(Answer::Claimed),
+            Statuses::One(Status::Unknown) => self.alone(Answer::Unknown),
+            Statuses::Nothing | Statuses::Several => Err(0),
+        }
+    }
+
+    // The text ends, and with it its last line: m was read of that line, number is its number, and said are the `s` lines before it.
+    pub fn at_end(
+        mut self,
+        text: &[u8],
+        m: Mode,
+        number: usize,
+        said: Statuses,
+    ) -> Result<Answer, usize>
+        requires { ModeAt m (length text.now) × (self.count < last_number) }
+        ensures { result ≡ told_at_end text.now m (length text.now) number said self }
+    {
+        self.add(m.literal());
+        match m.ended(text, text.len()) {
+            Kind::Bad => Err(number),
+            kind => self.answer(said.after(kind)),
+        }
+    }
 }

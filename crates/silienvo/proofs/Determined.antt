@@ -18,11 +18,11 @@ use Rattle.lines.proofs.Determined.{writes_one as line-writes-one}
 use Rattle.part.specs.P1.{p1}
 use Rattle.part.proofs.Answers.{writes_one}
 use Rattle.reply.proofs.Exact.{replies_one}
-use Rattle.editor.specs.declared.Connection.{Connection as Record}
+use Rattle.jobfile.specs.declared.Connection.{Connection as Record}
 use Rattle.editor.proofs.Answers.{edits_one}
 use Rattle.editor.proofs.Panels.{routes_panel_one}
 use Rattle.silienvo.specs.declared.SilienvoAnswer.{SilienvoAnswer}
-use Rattle.silienvo.specs.Exports.{job_given, verdict_given, judgement_given, rows_given, line_given, reply_given, written_given, done_given, sign_given, EditSays}
+use Rattle.silienvo.specs.Exports.{job_given, answer_given, done_given, length_given, verdict_given, reply_given, sign_given, EditSays}
 use Rattle.silienvo.specs.contracts.silienvo_read as read
 use Rattle.silienvo.proofs.silienvo_read.Kinds as read-kinds
 use Rattle.silienvo.proofs.silienvo_read.Reads as read-reads
@@ -72,34 +72,34 @@ one-read κs a r r' x x' p q = p.is ∙ ap (job_given (length a.0.now)) (reads_o
 
 pub one_route : (κs : Lfts 2) (a : ArgsD route.signature κs) (r r' : ResD route.signature κs) (x x' : AtExit (ended_of 2 route-kinds.ps route-kinds.r) κs)
     → route-reads.Post κs a r x → route-reads.Post κs a r' x' → (r ≡ r') × (x.1.1.0.now ≡ x'.1.1.0.now)
-one_route κs a r r' x x' p q = let d = routes_one a.0.now a.1.0 a.1.1.0.now p.answer q.answer _ _ p.says q.says in (p.is ∙ ap verdict_given d.0 ∙ sym q.is, d.1)
+one_route κs a r r' x x' p q = let d = routes_one a.0.now a.1.0 a.1.1.0.now p.answer q.answer _ _ p.says q.says in (p.is ∙ ap (answer_given verdict_given) d.0 ∙ sym q.is, d.1)
 
 pub one_judge : (κs : Lfts 2) (a : ArgsD judge.signature κs) (r r' : ResD judge.signature κs) (x x' : AtExit (ended_of 2 judge-kinds.ps judge-kinds.r) κs)
     → judge-reads.Post κs a r x → judge-reads.Post κs a r' x' → r ≡ r'
-one_judge κs a r r' x x' p q = p.is ∙ ap judgement_given (judges_one a.0.now a.1.0.now p.answer q.answer p.says q.says) ∙ sym q.is
+one_judge κs a r r' x x' p q = p.is ∙ ap (answer_given done_given) (judges_one a.0.now a.1.0.now p.answer q.answer p.says q.says) ∙ sym q.is
 
 pub one_rows : (κs : Lfts 3) (a : ArgsD rows.signature κs) (r r' : ResD rows.signature κs) (x x' : AtExit (ended_of 3 rows-kinds.ps rows-kinds.r) κs)
     → rows-reads.Post κs a r x → rows-reads.Post κs a r' x' → (r ≡ r') × (x.1.1.0.now ≡ x'.1.1.0.now)
-one_rows κs a r r' x x' p q = let d = lines-one a.0.now a.1.0.now a.1.1.0.now p.answer q.answer _ _ p.says q.says in (p.is ∙ ap rows_given d.0 ∙ sym q.is, d.1)
+one_rows κs a r r' x x' p q = let d = lines-one a.0.now a.1.0.now a.1.1.0.now p.answer q.answer _ _ p.says q.says in (p.is ∙ ap (answer_given length_given) d.0 ∙ sym q.is, d.1)
 
 pub one_line : (κs : Lfts 2) (a : ArgsD line.signature κs) (r r' : ResD line.signature κs) (x x' : AtExit (ended_of 2 line-kinds.ps line-kinds.r) κs)
     → line-reads.Post κs a r x → line-reads.Post κs a r' x' → (r ≡ r') × (x.1.1.0.now ≡ x'.1.1.0.now)
-one_line κs a r r' x x' p q = let d = line-writes-one a.0.now a.1.0 a.1.1.0.now p.answer q.answer _ _ p.says q.says in (p.is ∙ ap line_given d.0 ∙ sym q.is, d.1)
+one_line κs a r r' x x' p q = let d = line-writes-one a.0.now a.1.0 a.1.1.0.now p.answer q.answer _ _ p.says q.says in (p.is ∙ ap (answer_given length_given) d.0 ∙ sym q.is, d.1)
 
 pub one_reply : (κs : Lfts 3) (a : ArgsD reply.signature κs) (r r' : ResD reply.signature κs) (x x' : AtExit (ended_of 3 reply-kinds.ps reply-kinds.r) κs)
     → reply-reads.Post κs a r x → reply-reads.Post κs a r' x' → (r ≡ r') × (x.1.1.0.now ≡ x'.1.1.0.now)
-one_reply κs a r r' x x' p q = let d = replies_one a.0.now a.1.0.now a.1.1.0.now p.answer q.answer _ _ p.says q.says in (p.is ∙ ap reply_given d.0 ∙ sym q.is, d.1)
+one_reply κs a r r' x x' p q = let d = replies_one a.0.now a.1.0.now a.1.1.0.now p.answer q.answer _ _ p.says q.says in (p.is ∙ ap (answer_given reply_given) d.0 ∙ sym q.is, d.1)
 
 pub one_p1_write : (κs : Lfts 2) (a : ArgsD p1-write.signature κs) (r r' : ResD p1-write.signature κs) (x x' : AtExit (ended_of 2 p1-write-kinds.ps p1-write-kinds.r) κs)
     → p1-write-reads.Post κs a r x → p1-write-reads.Post κs a r' x' → (r ≡ r') × (x.1.1.0.now ≡ x'.1.1.0.now)
-one_p1_write κs a r r' x x' p q = let d = writes_one p1 a.0.now a.1.0 a.1.1.0.now p.answer q.answer _ _ p.says q.says in (p.is ∙ ap written_given d.0 ∙ sym q.is, d.1)
+one_p1_write κs a r r' x x' p q = let d = writes_one p1 a.0.now a.1.0 a.1.1.0.now p.answer q.answer _ _ p.says q.says in (p.is ∙ ap (answer_given length_given) d.0 ∙ sym q.is, d.1)
 
 pub one_p1_route : (cs : List Record) (k b : ℕ) (old : List ℕ) (r r' : SilienvoAnswer) (new new' : List ℕ) → EditSays cs k b old r new → EditSays cs k b old r' new' → (r ≡ r') × (new ≡ new')
-one_p1_route cs k b old r r' new new' p q = let d = edits_one cs k b old p.answer q.answer new new' p.says q.says in (p.is ∙ ap verdict_given d.0 ∙ sym q.is, d.1)
+one_p1_route cs k b old r r' new new' p q = let d = edits_one cs k b old p.answer q.answer new new' p.says q.says in (p.is ∙ ap (answer_given verdict_given) d.0 ∙ sym q.is, d.1)
 
 pub one_panel_make : (κs : Lfts 1) (a : ArgsD panel-make.signature κs) (r r' : ResD panel-make.signature κs) (x x' : AtExit (ended_of 1 panel-make-kinds.ps panel-make-kinds.r) κs)
     → panel-make-reads.Post κs a r x → panel-make-reads.Post κs a r' x' → (r ≡ r') × (x.0.now ≡ x'.0.now)
-one_panel_make κs a r r' x x' p q = let d = makes_one a.1.0 a.1.1.0 a.0.now p.answer q.answer _ _ p.says q.says in (p.is ∙ ap done_given d.0 ∙ sym q.is, d.1)
+one_panel_make κs a r r' x x' p q = let d = makes_one a.1.0 a.1.1.0 a.0.now p.answer q.answer _ _ p.says q.says in (p.is ∙ ap (answer_given done_given) d.0 ∙ sym q.is, d.1)
 
 pub one_panel_clear : (κs : Lfts 1) (a : ArgsD panel-clear.signature κs) (r r' : ResD panel-clear.signature κs) (x x' : AtExit (ended_of 1 panel-clear-kinds.ps panel-clear-kinds.r) κs)
     → panel-clear-reads.Post κs a r x → panel-clear-reads.Post κs a r' x' → x.0.now ≡ x'.0.now
@@ -107,15 +107,15 @@ one_panel_clear κs a r r' x x' p q = p ∙ sym q
 
 pub one_panel_add : (κs : Lfts 1) (a : ArgsD panel-add.signature κs) (r r' : ResD panel-add.signature κs) (x x' : AtExit (ended_of 1 panel-add-kinds.ps panel-add-kinds.r) κs)
     → panel-add-reads.Post κs a r x → panel-add-reads.Post κs a r' x' → (r ≡ r') × (x.0.now ≡ x'.0.now)
-one_panel_add κs a r r' x x' p q = let d = does_one a.0.now (add (record { left = a.1.0; right = a.1.1.0; mark = a.1.1.1.0 })) p.answer q.answer _ _ p.says q.says in (p.is ∙ ap done_given d.0 ∙ sym q.is, d.1)
+one_panel_add κs a r r' x x' p q = let d = does_one a.0.now (add (record { left = a.1.0; right = a.1.1.0; mark = a.1.1.1.0 })) p.answer q.answer _ _ p.says q.says in (p.is ∙ ap (answer_given done_given) d.0 ∙ sym q.is, d.1)
 
 pub one_panel_drop : (κs : Lfts 1) (a : ArgsD panel-drop.signature κs) (r r' : ResD panel-drop.signature κs) (x x' : AtExit (ended_of 1 panel-drop-kinds.ps panel-drop-kinds.r) κs)
     → panel-drop-reads.Post κs a r x → panel-drop-reads.Post κs a r' x' → (r ≡ r') × (x.0.now ≡ x'.0.now)
-one_panel_drop κs a r r' x x' p q = let d = does_one a.0.now (drop a.1.0) p.answer q.answer _ _ p.says q.says in (p.is ∙ ap done_given d.0 ∙ sym q.is, d.1)
+one_panel_drop κs a r r' x x' p q = let d = does_one a.0.now (drop a.1.0) p.answer q.answer _ _ p.says q.says in (p.is ∙ ap (answer_given done_given) d.0 ∙ sym q.is, d.1)
 
 pub one_panel_move : (κs : Lfts 1) (a : ArgsD panel-move.signature κs) (r r' : ResD panel-move.signature κs) (x x' : AtExit (ended_of 1 panel-move-kinds.ps panel-move-kinds.r) κs)
     → panel-move-reads.Post κs a r x → panel-move-reads.Post κs a r' x' → (r ≡ r') × (x.0.now ≡ x'.0.now)
-one_panel_move κs a r r' x x' p q = let d = does_one a.0.now (move a.1.0 a.1.1.0 a.1.1.1.0) p.answer q.answer _ _ p.says q.says in (p.is ∙ ap done_given d.0 ∙ sym q.is, d.1)
+one_panel_move κs a r r' x x' p q = let d = does_one a.0.now (move a.1.0 a.1.1.0 a.1.1.1.0) p.answer q.answer _ _ p.says q.says in (p.is ∙ ap (answer_given done_given) d.0 ∙ sym q.is, d.1)
 
 pub one_panel_red : (κs : Lfts 1) (a : ArgsD panel-red.signature κs) (r r' : ResD panel-red.signature κs) (x x' : AtExit (ended_of 1 panel-red-kinds.ps panel-red-kinds.r) κs)
     → panel-red-reads.Post κs a r x → panel-red-reads.Post κs a r' x' → r ≡ r'
@@ -123,4 +123,4 @@ one_panel_red κs a r r' x x' p q = p.is ∙ ap sign_given (signs_one a.0.now p.
 
 pub one_panel_p1_route : (κs : Lfts 2) (a : ArgsD panel-p1-route.signature κs) (r r' : ResD panel-p1-route.signature κs) (x x' : AtExit (ended_of 2 panel-p1-route-kinds.ps panel-p1-route-kinds.r) κs)
     → panel-p1-route-reads.Post κs a r x → panel-p1-route-reads.Post κs a r' x' → (r ≡ r') × (x.1.1.1.0.now ≡ x'.1.1.1.0.now)
-one_panel_p1_route κs a r r' x x' p q = let d = routes_panel_one a.0.now a.1.0 a.1.1.0 a.1.1.1.0.now p.answer q.answer _ _ p.says q.says in (p.is ∙ ap verdict_given d.0 ∙ sym q.is, d.1)
+one_panel_p1_route κs a r r' x x' p q = let d = routes_panel_one a.0.now a.1.0 a.1.1.0 a.1.1.1.0.now p.answer q.answer _ _ p.says q.says in (p.is ∙ ap (answer_given verdict_given) d.0 ∙ sym q.is, d.1)

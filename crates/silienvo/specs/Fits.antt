@@ -1,10 +1,10 @@
 -- Stepping stones: what is known of the reader's answer before it is told as numbers. Assumes nothing: these are definitions.
-use Rattle.std.specs.Prelude.{ℕ, ◌+◌, ◌*◌, ◌≤◌}
-use Rattle.jobfile.specs.declared.Read.{Read}
-use Rattle.jobfile.specs.declared.Read.TheVariants as read
+use Rattle.std.specs.Prelude.{Result, Ok, Err, ℕ, ◌+◌, ◌*◌, ◌≤◌}
+use Rattle.refusals.specs.declared.Refusal.{Refusal}
+use Rattle.jobfile.specs.declared.file.Sizes.{Sizes}
 use Rattle.jobfile.specs.Rows.{trailer_size, connection_size}
 
 -- a job's connections stand before the trailer
-abbrev pub ReadFits : ℕ → Read → Type 0
-ReadFits n (read.Job c t m k) = connection_size * m + trailer_size ≤ n
-ReadFits n (read.Refused num place) = Unit
+abbrev pub ReadFits : ℕ → Result Sizes Refusal → Type 0
+ReadFits n (Ok s) = connection_size * s.connections + trailer_size ≤ n
+ReadFits n (Err r) = Unit

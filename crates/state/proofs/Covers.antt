@@ -4,7 +4,7 @@ use mathlib.Core.Path.{◌≡◌, sym, ap, subst, ◌∙◌}
 use mathlib.Core.Bool.{true, false, not}
 use mathlib.Core.Logic.{⊎_elim}
 use mathlib.Core.List.{List}
-use Prim.Native.Nat.{ℕ, zero, suc, ◌+◌, ◌-◌, ◌≤◌, ◌<◌}
+use Prim.Native.Nat.{ℕ, zero, suc, ◌+◌, ◌-◌, ◌≤◌, ◌<◌, max}
 use native.Mathlib.Omega.{arith}
 use lib.Dec.{leb, ltb}
 use lib.ListN.{get_or}
@@ -17,8 +17,8 @@ use Rattle.loads.proofs.Covers.{crosses_says, crosses_is, covered_alone, but_say
 use Rattle.jobfile.specs.Rows.{tab}
 use Rattle.jobfile.proofs.Decode.{tab-length, tab-at}
 use Rattle.state.specs.State.{connection_in}
-use Rattle.state.specs.Walks.{larger, one_net, with_mark, other_over, SetDown, furthest}
-use Rattle.state.proofs.Walks.{larger-one, larger-first, larger_second}
+use Rattle.state.specs.Walks.{one_net, with_mark, other_over, SetDown, furthest}
+use Rattle.state.proofs.Walks.{max-one}
 
 -- the furthest: none reaches further, and one reaches as far
 furthest_above : (reach : List ℕ) (l n k : ℕ) → k < n → get_or reach (l + k) 0 ≤ furthest reach l n
@@ -26,8 +26,8 @@ unfolding furthest
 furthest_above reach l zero k h = absurd (omega arith)
 furthest_above reach l (suc n) k h =
     ⊎_elim
-    (λ (b : k < n). omega (arith, furthest_above reach l n k b, larger-first (furthest reach l n) (get_or reach (l + n) 0)))
-    (λ (b : n ≤ k). let z : n ≡ k = omega arith in subst (λ (w : ℕ). get_or reach (l + w) 0 ≤ larger (furthest reach l n) (get_or reach (l + n) 0)) z (larger_second (furthest reach l n) (get_or reach (l + n) 0)))
+    (λ (b : k < n). omega (arith, furthest_above reach l n k b))
+    (λ (b : n ≤ k). let z : n ≡ k = omega arith in subst (λ (w : ℕ). get_or reach (l + w) 0 ≤ max (furthest reach l n) (get_or reach (l + n) 0)) z (omega arith))
     (below k n)
 
 furthest_from : (reach : List ℕ) (l n : ℕ) → 0 < furthest reach l n → (k : ℕ) × (k < n) × (get_or reach (l + k) 0 ≡ furthest reach l n)
@@ -35,9 +35,9 @@ unfolding furthest
 furthest_from reach l zero h = absurd (omega arith)
 furthest_from reach l (suc n) h =
     ⊎_elim
-    (λ (e : larger (furthest reach l n) (get_or reach (l + n) 0) ≡ furthest reach l n). let k = furthest_from reach l n (omega arith) in (k.0, omega (arith, k.1), k.2 ∙ sym e))
-    (λ (e : larger (furthest reach l n) (get_or reach (l + n) 0) ≡ get_or reach (l + n) 0). (n, omega arith, sym e))
-    (larger-one (furthest reach l n) (get_or reach (l + n) 0))
+    (λ (e : max (furthest reach l n) (get_or reach (l + n) 0) ≡ furthest reach l n). let k = furthest_from reach l n (omega arith) in (k.0, omega (arith, k.1), k.2 ∙ sym e))
+    (λ (e : max (furthest reach l n) (get_or reach (l + n) 0) ≡ get_or reach (l + n) 0). (n, omega arith, sym e))
+    (max-one (furthest reach l n) (get_or reach (l + n) 0))
 
 pub list_at : (s : List ℕ) (m h : ℕ) → h < m → connection_at (tab (connection_in s) m 0) h ≡ connection_in s h
 unfolding connection_at
@@ -45,7 +45,7 @@ list_at s m h l = let z : 0 + h ≡ h = omega arith in tab-at (connection_in s) 
 
 module _ (s : List ℕ) (m but l k : ℕ) (reach : List ℕ) (g : SetDown s m but l k reach) (x : ℕ) (low : 1 ≤ x) (after : l ≤ x) where
   abbrev far : ℕ
-  far = furthest reach l (suc x - l)
+  far = furthest reach l (x + 1 - l)
 
   abbrev list : List Connection
   list = tab (connection_in s) m 0
@@ -60,18 +60,18 @@ module _ (s : List ℕ) (m but l k : ℕ) (reach : List ℕ) (g : SetDown s m bu
       let d = connection_in s h in
       let over = crosses_says d x (subst (λ (b : Connection). crosses b x ≡ true) at p.4) in
       let reached = g.whole h hm p.2 (subst (λ (b : Connection). pieces b (with_mark k) ≡ true) at p.3) in
-      let y = larger d.left l in
-      let yl : l ≤ y = larger_second d.left l in
-      let yx : y ≤ x = ⊎_elim (λ (q : y ≡ d.left). omega (arith, over.0)) (λ (q : y ≡ l). omega arith) (larger-one d.left l) in
+      let y = max d.left l in
+      let yl : l ≤ y = omega arith in
+      let yx : y ≤ x = omega (arith, over.0) in
       let z : l + (y - l) ≡ y = omega arith in
-      let f = subst (λ (w : ℕ). get_or reach w 0 ≤ far) z (furthest_above reach l (suc x - l) (y - l) (omega arith)) in
+      let f = subst (λ (w : ℕ). get_or reach w 0 ≤ far) z (furthest_above reach l (x + 1 - l) (y - l) (omega arith)) in
       le-leb x far (omega (arith, over.1))
 
   over_from : leb x far ≡ true → covered (without but list) (with_mark k) x ≡ true
   unfolding pieces net one_net
   over_from e =
       let reached = leb-true x far e in
-      let p = furthest_from reach l (suc x - l) (omega arith) in
+      let p = furthest_from reach l (x + 1 - l) (omega arith) in
       let q = g.sound (l + p.0) (omega (arith, p.2)) in
       let h = q.0 in
       let at = list_at s m h q.1 in

@@ -1,5 +1,5 @@
-pub mod Tests
 pub mod Walks
 pub mod Covers
+pub mod Free
 pub mod Lists
 pub mod Outside

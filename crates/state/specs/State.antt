@@ -1,6 +1,6 @@
 -- Document 02, A2: the panel's state, one array of bytes: N, T and the number of connections, a byte each; room for the most connections, three bytes each; a load
 -- for each of the columns 0 to 255, of which 0 is never used. Every array is a state: a number above the most reads as the most. Assumes nothing: these are definitions.
-use Rattle.std.specs.Prelude.{◌≡◌, cond, List, ◌∷◌, ℕ, ◌+◌, ◌-◌, ◌*◌, ◌≤◌, leb, ltb, get_or, replicate}
+use Rattle.std.specs.Prelude.{◌≡◌, cond, List, ◌∷◌, ℕ, ◌+◌, ◌-◌, ◌*◌, ◌≤◌, min, ltb, get_or, replicate}
 use Rattle.channel.specs.Limits.{most_columns, most_connections}
 use Rattle.channel.specs.Channel.{Connection}
 use Rattle.loads.specs.Loads.{load}
@@ -21,8 +21,8 @@ abbrev pub empty_panel : ℕ → ℕ → List ℕ
 empty_panel n t = n ∷ t ∷ replicate (state_bytes - 2) 0
 
 -- a number of connections as it is read
-unfoldable pub at_most : ℕ → ℕ
-at_most m = cond (leb m most_connections) m most_connections
+abbrev pub at_most : ℕ → ℕ
+at_most m = min m most_connections
 
 module _ (s : List ℕ) where
   -- N, T, M

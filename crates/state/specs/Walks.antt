@@ -1,19 +1,14 @@
 -- Stepping stones: the walks of an edit. How far the pieces of a net reach, and the loads of some columns turned. `added`, `dropped` and `shifted`
 -- (proofs/Adding.antt, Dropping.antt and Moving.antt of `panel`) say what they come to. Assumes nothing: these are definitions.
-use Rattle.std.specs.Prelude.{◌≡◌, Bool, true, ◌&&◌, cond, ◌⊎◌, List, ℕ, zero, suc, ◌+◌, ◌≤◌, ◌<◌, leb, ltb, eqb, length, get_or}
+use Rattle.std.specs.Prelude.{◌≡◌, Bool, true, ◌&&◌, cond, ◌⊎◌, List, ℕ, zero, suc, ◌+◌, ◌≤◌, ◌<◌, max, leb, ltb, eqb, length, get_or}
 use Rattle.channel.specs.Limits.{most_columns}
 use Rattle.channel.specs.Channel.{Connection, net_in}
 use Rattle.channel.specs.Relaxed.{without}
 use Rattle.loads.specs.Loads.{covered}
 use Rattle.jobfile.specs.Rows.{tab, connection_size}
+use Rattle.state.specs.declared.Way.{Way}
+use Rattle.state.specs.declared.Way.TheVariants.{Up, Down}
 use Rattle.state.specs.State.{loads_at, connection_in, load_in, up, down}
-
--- the larger of two, and the smaller
-unfoldable pub larger : ℕ → ℕ → ℕ
-larger a b = cond (ltb a b) b a
-
-unfoldable pub smaller : ℕ → ℕ → ℕ
-smaller a b = cond (ltb a b) a b
 
 -- column x is one of those from a up to, not including, e
 unfoldable pub in_span : ℕ → ℕ → ℕ → Bool
@@ -34,22 +29,23 @@ other_over s m but k x = covered (without but (tab (connection_in s) m 0)) (with
 -- furthest right column of those set down there, 0 if none
 pub record SetDown (s : List ℕ) (m but l k : ℕ) (reach : List ℕ) : Type 0 where
   pub long : length reach ≡ most_columns + 1
-  pub whole : (i : ℕ) → i < m → (i ≡ but → ⊥) → one_net (connection_in s i).mark k ≡ true → (connection_in s i).right ≤ get_or reach (larger (connection_in s i).left l) 0
+  pub whole : (i : ℕ) → i < m → (i ≡ but → ⊥) → one_net (connection_in s i).mark k ≡ true → (connection_in s i).right ≤ get_or reach (max (connection_in s i).left l) 0
   pub sound : (y : ℕ) → 0 < get_or reach y 0 → (i : ℕ) × (i < m) × (one_net (connection_in s i).mark k ≡ true) × ((connection_in s i).left ≤ y) × ((connection_in s i).right ≡ get_or reach y 0) × (i ≡ but → ⊥)
 
 -- the furthest that those set down at the n columns from l on reach
 unfoldable pub furthest : List ℕ → ℕ → ℕ → ℕ
 furthest reach l zero = 0
-furthest reach l (suc n) = larger (furthest reach l n) (get_or reach (l + n) 0)
+furthest reach l (suc n) = max (furthest reach l n) (get_or reach (l + n) 0)
 
 -- a load counted down or up
-unfoldable pub turn : Bool → ℕ → ℕ
-turn falls b = cond falls (down b) (up b)
+abbrev pub turn : Way → ℕ → ℕ
+turn Up b = up b
+turn Down b = down b
 
 -- the loads of the columns that pass are turned; every other byte stays
-pub record Turned (on : ℕ → Bool) (falls : Bool) (s s' : List ℕ) : Type 0 where
+pub record Turned (on : ℕ → Bool) (way : Way) (s s' : List ℕ) : Type 0 where
   pub long : length s' ≡ length s
-  pub loads : (x : ℕ) → 1 ≤ x → load_in s' x ≡ cond (on x) (turn falls (load_in s x)) (load_in s x)
+  pub loads : (x : ℕ) → 1 ≤ x → load_in s' x ≡ cond (on x) (turn way (load_in s x)) (load_in s x)
   pub others : (k : ℕ) → k ≤ loads_at → get_or s' k 0 ≡ get_or s k 0
 
 -- the bytes from a up to, not including, e have moved down by a connection

@@ -1,15 +1,14 @@
 // The panel's state as one lent array of bytes, and the walks over its loads: the columns of a span counted up or down where no other piece of a net is. Document 02, A2.
 #![tactic(auto)]
 
-ghost use Rattle.std.specs.Prelude.{◌≡◌, ◌&&◌, not, suc, ◌+◌, ◌-◌, ◌*◌, ◌≤◌, ◌<◌, ltb, eqb, length, get_or, set};
+ghost use Rattle.std.specs.Prelude.{◌≡◌, ◌&&◌, not, ◌+◌, ◌*◌, ◌≤◌, length};
 ghost use Rattle.channel.specs.Limits.{most_columns, most_connections};
 ghost use Rattle.jobfile.specs.Rows.{connection_size};
 ghost use Rattle.state.specs.State.{state_bytes, empty_panel, m_in};
-ghost use Rattle.state.specs.Walks.{larger, smaller, in_span, one_net, other_over, SetDown, furthest, turn, Turned, Closed};
+ghost use Rattle.state.specs.Walks.{in_span, one_net, other_over, SetDown, turn, Turned, Closed};
 
 use channel::{MOST_CONNECTIONS, net_of};
 use jobfile::CONNECTION;
-use text::wide;
 
 // N, T and the number of connections; then the connections; then a load for each of the columns 0 to 255, of which 0 is never used.
 pub const LIST: usize = 3;
@@ -21,22 +20,34 @@ const COLUMNS: usize = 256;
 pub const STATE: usize = LOADS + COLUMNS;
 
 // The columns from `from` up to, not including, `to`.
-#[derive(Clone, Copy)]
+#[derive(Clone, Copy, Debug, PartialEq, Eq)]
 pub struct Span {
     pub from: usize,
     pub to: usize,
+    ghost there: { to ≤ most_columns + 1 },
 }
 
-// The number of connections: a byte above the most reads as the most. The slice tells how many bytes there are.
+// Which way a load is counted.
+#[derive(Clone, Copy, Debug, PartialEq, Eq)]
+pub enum Way {
+    Up,
+    Down,
+}
+
+// A connection in its list: its place, or where it will stand, its mark, and how many connections the list has.
+#[derive(Clone, Copy, Debug, PartialEq, Eq)]
+pub struct Piece {
+    pub at: usize,
+    pub mark: u8,
+    pub of: usize,
+    ghost few: { of ≤ most_connections },
+}
+
+// The number of connections: a byte above the most reads as the most.
 pub fn count(state: &[u8; STATE]) -> usize
     ensures { (result ≡ m_in state.now) × (result ≤ most_connections) × (length state.now ≡ state_bytes) }
 {
-    let bytes = &state[..];
-    let m = wide(bytes[2]);
-    if m <= MOST_CONNECTIONS {
-        return m;
-    }
-    MOST_CONNECTIONS
+    MOST_CONNECTIONS.min(usize::from(state[2]))
 }
 
 // No connection, and every load 0, for N and T.
@@ -48,191 +59,89 @@ pub fn wipe(state: &mut [u8; STATE], n: u8, t: u8)
     state[1] = t;
 }
 
-pub fn later(a: usize, b: usize) -> usize
-    ensures { result ≡ larger a b }
-{
-    if a < b {
-        return b;
-    }
-    a
-}
-
-fn earlier(a: usize, b: usize) -> usize
-    ensures { result ≡ smaller a b }
-{
-    if a < b {
-        return a;
-    }
-    b
-}
-
-// A load counted down or up; at 0 and at its most it stays, which no load of a list does.
-fn turned(b: u8, falls: bool) -> u8
-    ensures { result ≡ turn falls b }
-{
-    if falls {
-        if b < 1 {
-            return b;
-        }
-        return b - 1;
-    }
-    if b < 255 {
-        return b + 1;
-    }
-    b
-}
-
+#[tactic(auto, unfolding(crate::specs::Walks::one_net))]
 fn is_one_net(a: u8, b: u8) -> bool
     ensures { result ≡ one_net a b }
 {
-    let net = net_of(a);
-    if net < 1 {
-        return false;
-    }
-    net == net_of(b)
-}
-
-// A piece of the net, and not the connection at `but`.
-fn is_other(a: u8, b: u8, i: usize, but: usize) -> bool
-    ensures { result ≡ not (eqb i but) && one_net a b }
-{
-    if i == but {
-        return false;
-    }
-    is_one_net(a, b)
-}
-
-// A piece that reaches `right` is set down at column y.
-fn set_down(reach: &mut [u8; COLUMNS], y: usize, right: u8)
-    requires { y ≤ most_columns }
-    ensures { reach.new ≡ set reach.old y (larger (get_or reach.old y 0) right) }
-{
-    if reach[y] < right {
-        reach[y] = right;
-    }
-}
-
-// How far the pieces of the mark's net reach, each set down at its left column or at `left` if that is later.
-fn reaches(state: &[u8; STATE], m: usize, but: usize, left: usize, mark: u8) -> [u8; COLUMNS]
-    requires { (m ≤ most_connections) × (left ≤ most_columns) }
-    ensures { SetDown state.now m but left mark result }
-{
-    let mut reach = [0u8; COLUMNS];
-    let mut i = 0;
-    while i < m {
-        let at = LIST + CONNECTION * i;
-        if is_other(state[at + 2], mark, i, but) {
-            let y = later(wide(state[at]), left);
-            set_down(&mut reach, y, state[at + 1]);
-        }
-        i += 1;
-    }
-    reach
-}
-
-// The loads of the columns are turned where no piece reaches.
-fn turn_unreached(
-    state: &mut [u8; STATE],
-    reach: &[u8; COLUMNS],
-    from: usize,
-    to: usize,
-    falls: bool,
-)
-    requires { (1 ≤ from) × (from ≤ to) × (to ≤ most_columns + 1) }
-    ensures { length state.old ≡ state_bytes → Turned (λ x. in_span from to x && ltb (furthest reach.now from (suc x - from)) x) falls state.old state.new }
-{
-    let mut far = 0;
-    let mut x = from;
-    while x < to {
-        far = later(far, wide(reach[x]));
-        if far < x {
-            let old = state[LOADS + x];
-            state[LOADS + x] = turned(old, falls);
-        }
-        x += 1;
-    }
-}
-
-// The loads of the columns are turned, all of them.
-fn turn_all(state: &mut [u8; STATE], from: usize, to: usize, falls: bool)
-    requires { (1 ≤ from) × (from ≤ to) × (to ≤ most_columns + 1) }
-    ensures { length state.old ≡ state_bytes → Turned (in_span from to) falls state.old state.new }
-{
-    let mut x = from;
-    while x < to {
-        let old = state[LOADS + x];
-        state[LOADS + x] = turned(old, falls);
-        x += 1;
-    }
-}
-
-// The loads of the columns are turned where no piece of the mark's net is but the connection at `but`.
-pub fn turn_span(
-    state: &mut [u8; STATE],
-    m: usize,
-    but: usize,
-    mark: u8,
-    from: usize,
-    to: usize,
-    falls: bool,
-)
-    requires { (m ≤ most_connections) × (to ≤ most_columns + 1) }
-    ensures { length state.old ≡ state_bytes → Turned (λ x. in_span from to x && not (other_over state.old m but mark x)) falls state.old state.new }
-{
-    let first = later(from, 1);
-    if to <= first {
-        return;
-    }
-    if net_of(mark) < 1 {
-        turn_all(state, first, to, falls);
-        return;
-    }
-    let reach = reaches(state, m, but, first, mark);
-    turn_unreached(state, &reach, first, to, falls);
-}
-
-// The same for the columns of one span that are not of another.
-pub fn turn_outside(
-    state: &mut [u8; STATE],
-    m: usize,
-    but: usize,
-    mark: u8,
-    span: Span,
-    out: Span,
-    falls: bool,
-)
-    requires { (m ≤ most_connections) × (span.to ≤ most_columns + 1) × (out.from ≤ out.to) }
-    ensures { length state.old ≡ state_bytes → Turned (λ x. (in_span span.from span.to x && not (in_span out.from out.to x)) && not (other_over state.old m but mark x)) falls state.old state.new }
-{
-    turn_span(
-        state,
-        m,
-        but,
-        mark,
-        span.from,
-        earlier(span.to, out.from),
-        falls,
-    );
-    turn_span(
-        state,
-        m,
-        but,
-        mark,
-        later(span.from, out.to),
-        span.to,
-        falls,
-    );
+    0 < net_of(a) && net_of(a) == net_of(b)
 }
 
 // The bytes behind a connection move down over it, up to the last connection's place.
 pub fn close(state: &mut [u8; STATE], from: usize, to: usize)
     requires { (from ≤ to) × (to ≤ connection_size * most_connections) }
-    ensures { length state.old ≡ state_bytes → Closed from to state.old state.new }
+    ensures { Closed from to state.old state.new }
 {
-    let mut k = from;
-    while k < to {
-        let b = state[k + CONNECTION];
-        state[k] = b;
-        k += 1;
+    state.copy_within(from + CONNECTION..to + CONNECTION, from);
+}
+
+impl Way {
+    // A load counted down or up; at 0 and at its most it stays, which no load of a list does.
+    fn turned(self, load: u8) -> u8
+        ensures { result ≡ turn self load }
+    {
+        match self {
+            Way::Up => load.saturating_add(1),
+            Way::Down => load.saturating_sub(1),
+        }
+    }
+}
+
+impl Piece {
+    // How far the other pieces of its net reach, each set down at its left column or at `left` if that is later.
+    fn reaches(self, state: &[u8; STATE], left: usize) -> [u8; COLUMNS]
+        requires { left ≤ most_columns }
+        ensures { SetDown state.now self.of self.at left self.mark result }
+    {
+        let mut reach = [0u8; COLUMNS];
+        for i in 0..self.of {
+            let at = LIST + CONNECTION * i;
+            if i != self.at && is_one_net(state[at + 2], self.mark) {
+                let y = usize::from(state[at]).max(left);
+                reach[y] = reach[y].max(state[at + 1]);
+            }
+        }
+        reach
+    }
+
+    // The loads of the span's columns are turned where no other piece of its net is.
+    pub fn turn_span(self, state: &mut [u8; STATE], span: Span, way: Way)
+        ensures { Turned (λ x. in_span span.from span.to x && not (other_over state.old self.of self.at self.mark x)) way state.old state.new }
+    {
+        let first = span.from.max(1);
+        if span.to <= first {
+            return;
+        }
+        // One on its own is beside no piece. This loop has no test, so a machine turns many loads at once.
+        if net_of(self.mark) == 0 {
+            for x in first..span.to {
+                state[LOADS + x] = way.turned(state[LOADS + x]);
+            }
+            return;
+        }
+        let reach = self.reaches(state, first);
+        let mut far = 0u8;
+        for x in first..span.to {
+            far = far.max(reach[x]);
+            if usize::from(far) < x {
+                state[LOADS + x] = way.turned(state[LOADS + x]);
+            }
+        }
+    }
+
+    // The same for the columns of one span that are not of another.
+    pub fn turn_outside(self, state: &mut [u8; STATE], span: Span, out: Span, way: Way)
+        requires { out.from ≤ out.to }
+        ensures { Turned (λ x. (in_span span.from span.to x && not (in_span out.from out.to x)) && not (other_over state.old self.of self.at self.mark x)) way state.old state.new }
+    {
+        let before = Span {
+            from: span.from,
+            to: span.to.min(out.from),
+        };
+        let behind = Span {
+            from: span.from.max(out.to),
+            to: span.to,
+        };
+        self.turn_span(state, before, way);
+        self.turn_span(state, behind, way);
     }
 }

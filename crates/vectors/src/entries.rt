@@ -1,126 +1,115 @@
 // The entries of the library, each asked what a record asks, and the answer as three numbers. Document 01, "Replies by number", has the numbers of refusals.
 use crate::panels;
 use crate::record::{ROOM, byte, first, four, second};
-use jobfile::Read;
-use judge::Judgement;
-use part::Written;
+use jobfile::Sizes;
+use refusals::Refusal;
 use route::Verdict;
-use text::wide;
-
-// A kind that no record has.
-pub const NONE: u8 = 255;
 
 // An answer: kind 0 is a refusal with its number and its place as the value; other kinds are counted from 1 in the order of the entry's answers.
-#[derive(Clone, Copy)]
+#[derive(Clone, Copy, PartialEq, Eq)]
 pub struct Given {
     pub kind: u8,
     pub number: u8,
     pub value: usize,
 }
 
-pub fn refused(number: u8, place: usize) -> Given {
+fn answered(kind: u8, value: usize) -> Given {
     Given {
-        kind: 0,
-        number: number,
-        value: place,
+        kind,
+        number: 0,
+        value,
     }
 }
 
-pub fn answered(kind: u8, value: usize) -> Given {
-    Given {
-        kind: kind,
-        number: 0,
-        value: value,
+// Done, or legal; and a colour that is not red.
+impl From<()> for Given {
+    fn from(_done: ()) -> Given {
+        answered(1, 0)
+    }
+}
+
+// The length of what was written.
+impl From<usize> for Given {
+    fn from(length: usize) -> Given {
+        answered(1, length)
     }
 }
 
 // N, T, M and K in a byte each, low byte first.
-fn sizes(n: u8, t: u8, m: u8, k: u8) -> usize {
-    wide(n) + 256 * (wide(t) + 256 * (wide(m) + 256 * wide(k)))
-}
-
-fn read(r: &[u8]) -> Given {
-    match jobfile::read_job(first(r)) {
-        Read::Job {
-            columns,
-            tracks,
-            connections,
-            limit,
-        } => answered(1, sizes(columns, tracks, connections, limit)),
-        Read::Refused { number, place } => refused(number, place),
+impl From<Sizes> for Given {
+    fn from(s: Sizes) -> Given {
+        let bytes = [s.columns, s.tracks, s.connections, s.limit];
+        answered(1, u32::from_le_bytes(bytes) as usize)
     }
 }
 
-pub fn verdict(v: Verdict) -> Given {
-    match v {
-        Verdict::Routed(trials) => answered(1, trials as usize),
-        Verdict::Unroutable(trials) => answered(2, trials as usize),
-        Verdict::Undecided(trials) => answered(3, trials as usize),
-        Verdict::Refused { number, place } => refused(number, place),
+impl From<Verdict> for Given {
+    fn from(verdict: Verdict) -> Given {
+        match verdict {
+            Verdict::Routed(trials) => answered(1, trials as usize),
+            Verdict::Unroutable(trials) => answered(2, trials as usize),
+            Verdict::Undecided(trials) => answered(3, trials as usize),
+        }
     }
 }
 
-fn routed(r: &[u8], lent: &mut [u8]) -> Given {
-    verdict(route::route(first(r), four(r, 7), lent))
-}
-
-fn judged(r: &[u8]) -> Given {
-    match judge::judge(first(r), second(r)) {
-        Judgement::Legal => answered(1, 0),
-        Judgement::Refused { number, place } => refused(number, place),
+impl From<reply::Answer> for Given {
+    fn from(answer: reply::Answer) -> Given {
+        match answer {
+            reply::Answer::Accepted => answered(1, 0),
+            reply::Answer::Claimed => answered(2, 0),
+            reply::Answer::Unknown => answered(3, 0),
+        }
     }
 }
 
-fn line(r: &[u8], lent: &mut [u8]) -> Given {
-    match lines::line(first(r), four(r, 7) as usize, lent) {
-        lines::Answer::Line(length) => answered(1, length),
-        lines::Answer::Refused { number, place } => refused(number, place),
+// A colour: the red column, if there is one.
+impl From<Option<usize>> for Given {
+    fn from(red: Option<usize>) -> Given {
+        match red {
+            None => answered(1, 0),
+            Some(column) => answered(2, column),
+        }
     }
 }
 
-fn replied(r: &[u8], lent: &mut [u8]) -> Given {
-    match reply::reply(first(r), second(r), lent) {
-        reply::Answer::Accepted => answered(1, 0),
-        reply::Answer::Claimed => answered(2, 0),
-        reply::Answer::Unknown => answered(3, 0),
-        reply::Answer::Refused { number, place } => refused(number, place),
-    }
-}
-
-fn p1_written(r: &[u8], lent: &mut [u8]) -> Given {
-    match part::write_p1(first(r), four(r, 7), lent) {
-        Written::File(length) => answered(1, length),
-        Written::Refused { number, place } => refused(number, place),
+// An entry's answer.
+pub fn told<T>(answer: Result<T, Refusal>) -> Given
+where
+    Given: From<T>,
+{
+    match answer {
+        Ok(good) => Given::from(good),
+        Err(refusal) => Given {
+            kind: 0,
+            number: refusal.number(),
+            value: refusal.place,
+        },
     }
 }
 
 // P1's connections routed as the file that is written of them.
-fn p1_routed(r: &[u8], lent: &mut [u8]) -> Given {
+fn p1_routed(r: &[u8], lent: &mut [u8]) -> Option<Given> {
     let mut file = [0u8; ROOM];
     match part::write_p1(first(r), four(r, 7), &mut file) {
-        Written::File(length) => {
-            if ROOM < length {
-                return answered(NONE, 0);
-            }
-            verdict(route::route(&file[..length], four(r, 11), lent))
-        }
-        Written::Refused { number, place } => refused(number, place),
+        Ok(length) => Some(told(route::route(file.get(..length)?, four(r, 11), lent))),
+        Err(refusal) => Some(told::<usize>(Err(refusal))),
     }
 }
 
-// The answer of the entry that a record names.
-pub fn asked(r: &[u8], lent: &mut [u8]) -> Given {
+// The answer of the entry that a record names, if it names one. The byte is the file's own number of the entry, and read here and in `panels` alone.
+pub fn asked(r: &[u8], lent: &mut [u8]) -> Option<Given> {
     match byte(r, 0) {
-        1 => read(r),
-        2 => routed(r, lent),
-        3 => judged(r),
-        4 => line(r, lent),
-        5 => replied(r, lent),
-        6 => p1_written(r, lent),
+        1 => Some(told(jobfile::read_job(first(r)))),
+        2 => Some(told(route::route(first(r), four(r, 7), lent))),
+        3 => Some(told(judge::judge(first(r), second(r)))),
+        4 => Some(told(lines::line(first(r), four(r, 7) as usize, lent))),
+        5 => Some(told(reply::reply(first(r), second(r), lent))),
+        6 => Some(told(part::write_p1(first(r), four(r, 7), lent))),
         7 => p1_routed(r, lent),
         8..=12 => panels::edited(r, lent),
         13 => panels::signed(r),
         14 => panels::routed(r, lent),
-        _ => answered(NONE, 0),
+        _ => None,
     }
 }

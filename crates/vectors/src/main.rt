@@ -2,38 +2,33 @@
 // Answer, number, place or value, and every byte of the lent buffer are compared. tests/README.md says how the files are made.
 #![tactic(auto)]
 
-ghost use Rattle.std.specs.Prelude.{◌≤◌, length};
-
 mod entries;
 mod panels;
 mod record;
 
-use record::{ROOM, after, before, byte, four};
+use entries::Given;
+use record::{ROOM, after, before, byte, first, four};
 use std::fs::File;
-use std::io::Read;
 use std::{env, io};
 
-// Whether the answer is the record's.
-fn says(r: &[u8], given: entries::Given) -> bool {
-    if given.kind != byte(r, 1) {
-        return false;
+// The answer that a record has.
+fn recorded(r: &[u8]) -> Given {
+    Given {
+        kind: byte(r, 1),
+        number: byte(r, 2),
+        value: four(r, 3) as usize,
     }
-    if given.number != byte(r, 2) {
-        return false;
-    }
-    given.value == four(r, 3) as usize
 }
 
 // Whether the entry answers as the record says, and leaves the lent buffer as the record has it. A job's fourth string is the part with its connections.
 fn agrees_lent(r: &[u8], lent: &mut [u8]) -> bool {
-    let given = entries::asked(r, lent);
-    if !says(r, given) {
+    if entries::asked(r, lent) != Some(recorded(r)) {
         return false;
     }
     if byte(r, 0) == 1 {
-        return check::same(jobfile::connections(record::first(r)), after(r));
+        return jobfile::connections(first(r)) == after(r);
     }
-    check::same(lent, after(r))
+    &*lent == after(r)
 }
 
 // Whether the library does what the record says. Bytes that are no record never agree.
@@ -42,13 +37,14 @@ fn agrees(r: &[u8]) -> bool {
         return false;
     }
     let old = before(r);
-    let n = old.len();
-    if ROOM < n {
-        return false;
+    let mut room = [0u8; ROOM];
+    match room.get_mut(..old.len()) {
+        Some(lent) => {
+            lent.copy_from_slice(old);
+            agrees_lent(r, lent)
+        }
+        None => false,
     }
-    let mut lent = [0u8; ROOM];
-    text::put_text(&mut lent, 0, old);
-    agrees_lent(r, &mut lent[..n])
 }
 
 #[derive(Clone, Copy)]
@@ -59,37 +55,20 @@ struct Count {
 
 // All records of a file.
 fn replay(bytes: &[u8]) -> Count {
-    let mut at: usize = 0;
+    let mut rest = bytes;
     let mut agree: usize = 0;
     let mut differ: usize = 0;
-    while at < bytes.len() {
-        let end = record::end(bytes, at);
-        if agrees(&bytes[at..end]) {
+    // Kept: a `while`, for each record tells how long it is.
+    while !rest.is_empty() {
+        let (r, behind) = rest.split_at(record::size(rest));
+        if agrees(r) {
             agree += 1;
         } else {
             differ += 1;
         }
-        at = end;
+        rest = behind;
     }
     Count { agree, differ }
-}
-
-fn print(rt: &HostRuntime, name: &str, count: Count) {
-    let _ = println!(rt; "{name} {} agree, {} differ", count.agree, count.differ);
-}
-
-// Reads until the buffer is full, the file ends or a read fails; how many bytes were read.
-fn read_full(file: &mut File, buf: &mut [u8]) -> usize
-    ensures { result ≤ length buf.new }
-{
-    let mut done: usize = 0;
-    while done < buf.len() {
-        match file.read(&mut buf[done..]) {
-            Ok(0) | Err(_) => return done,
-            Ok(n) => done += n,
-        }
-    }
-    done
 }
 
 // One file.
@@ -102,9 +81,9 @@ fn one(rt: &HostRuntime, path: &str) {
         }
     };
     let mut bytes = [0u8; 65536];
-    let read = read_full(&mut file, &mut bytes);
+    let read = input::read_full(&mut file, &mut bytes);
     let count = replay(&bytes[..read]);
-    print(rt, path, count);
+    let _ = println!(rt; "{path} {} agree, {} differ", count.agree, count.differ);
 }
 
 fn main(rt: HostRuntime) -> io::Result<()> {

@@ -29,13 +29,13 @@ fn examples(page: &str) -> Vec<Example> {
     examples
 }
 
-/// The public functions of a source file that have a precondition.
+/// The public functions of a source file that have a precondition, methods among them.
 fn asking(source: &str) -> Vec<&str> {
     let mut found = Vec::new();
-    for part in source.split("\npub fn ").skip(1) {
-        let head = &part[..part.find("\n{").unwrap_or(part.len())];
-        if head.lines().any(|line| line.trim_start().starts_with("requires ")) {
-            found.extend(head.split(['(', '<']).next());
+    for part in source.split("pub fn ").skip(1) {
+        let mut head = part.lines().take_while(|line| !line.trim_end().ends_with('{') || line.trim_start().starts_with("requires "));
+        if head.any(|line| line.trim_start().starts_with("requires ")) {
+            found.extend(part.split(['(', '<']).next());
         }
     }
     found

@@ -3,27 +3,21 @@ use mathlib.Core.Path.{◌≡◌, refl}
 use Prim.Native.Nat.{◌*◌, ◌-◌}
 use native.Mathlib.Omega.{arith}
 use lib.ListN.{length}
-use Rattle.jobfile.specs.declared.Read.TheVariants as variant
-use Rattle.jobfile.specs.Rows.{n_of, t_of, m_of, k_of, connections_at, job_of}
+use Rattle.std.specs.Prelude.{Ok, Err}
+use Rattle.jobfile.specs.Rows.{connections_at}
 use Rattle.jobfile.proofs.Decode.{room}
-use Rattle.jobfile.proofs.Exact.{Told, told, job_numbers, connections_stand}
+use Rattle.jobfile.proofs.Exact.{answer_job, connections_stand}
 use Rattle.jobfile.proofs.connections.Goals as goal
-use Rattle.jobfile.proofs.connections.Goals.{In-Job}
 
--- what the reader told of the file
-read : (c : In-Job) → Told c.args.f.now c.in-Job.columns c.in-Job.tracks c.in-Job.connections c.in-Job.limit
-read c = told c.args.f.now c.in-Job.columns c.in-Job.tracks c.in-Job.connections c.in-Job.limit (rw c.in-Job.is at c.read_job.ensures)
-
-pub connections_at-at-requires : goal.connections_at-at-requires
-connections_at-at-requires c = let t = read c in omega (arith, room _ t.facts, t.facts.long)
-
-pub overflow_sub-end : goal.overflow_sub-end
-overflow_sub-end c = let t = read (goal.at.overflow_sub-end c).In-Job in omega (arith, t.facts.long)
-
-pub returns-in-Job : goal.returns-in-Job
-returns-in-Job c =
+pub returns-in-Ok : goal.returns-in-Ok
+returns-in-Ok c =
     let f = c.args.f.now in
-    let t = read (goal.at.returns-in-Job c).In-Job in
     let e = c.connections_at-at.ensures in
-    let n : length f - 8 - connections_at f ≡ 3 * m_of f = omega (arith, room f t.facts) in
-    record { answer = variant.Job (n_of f) (t_of f) (m_of f) (k_of f); reads = (job_of f, t.file, job_numbers f); handed = (record { block = refl; place = omega arith; bytes = rw (e, n) }, connections_stand f (n_of f) (t_of f) (m_of f) (k_of f) (job_of f, t.file, job_numbers f)) }
+    let facts = rw c.in-Ok.ensures at c.in-Ok.job.facts in
+    let told = rw c.in-Ok.ensures at c.in-Ok.job.told in
+    let reads = answer_job f facts (λ i. omega (arith, c.type_inv.f i)) c.in-Ok.job.sizes told in
+    let n : length f - 8 - connections_at f ≡ 3 * c.in-Ok.job.sizes.connections = omega (arith, room f facts, told.m_is) in
+    record { answer = Ok c.in-Ok.job.sizes; reads = reads; handed = (record { block = refl; place = omega (arith, told.m_is); bytes = rw (e, n, told.m_is) }, connections_stand f c.in-Ok.job.sizes reads) }
+
+pub returns-in-Err : goal.returns-in-Err
+returns-in-Err c = record { answer = Err c.in-Err.field-0; reads = c.in-Err.ensures; handed = record { block = refl; place = omega arith; bytes = refl } }

@@ -4,15 +4,9 @@ use Rattle.clauses.specs.Clauses.{bar}
 use Rattle.lines.proofs.Words.{last_variable}
 use Rattle.lines.proofs.put_bar.Goals as goal
 
-pub overflow_mul-i : goal.overflow_mul-i
-overflow_mul-i c = let z = last_variable c.args.i c.args.w c.requires.i_lt_most_connections c.requires.w_le_most_bits in omega arith
-
-pub overflow_add-i : goal.overflow_add-i
-overflow_add-i c = let z = last_variable c.args.i c.args.w c.requires.i_lt_most_connections c.requires.w_le_most_bits in omega arith
-
 pub put_literals-requires : goal.put_literals-requires
-put_literals-requires c = let z = last_variable c.args.i c.args.w c.requires.i_lt_most_connections c.requires.w_le_most_bits in omega arith
+put_literals-requires c = let z = last_variable c.args.i c.args.w c.requires.i_lt_most_connections c.requires.w_le_most_bits in rw c.from.ensures (omega arith)
 
-pub returns : goal.returns
+pub returns-clause-wrote : goal.returns-clause-wrote
 unfolding bar
-returns c = c.put_literals.ensures
+returns-clause-wrote c = rw c.from.ensures at c.put_literals.ensures.wrote

@@ -1,8 +1,9 @@
 -- The parts one after the other.
-use Rattle.text.proofs.Writing.{then}
+use borrow.Author.Rules.{rules}
+use Rattle.text.proofs.Writing.{◌followed_by◌, wrote_to}
 use Rattle.dimacs.specs.Lines.{header_text}
 use Rattle.lines.proofs.put_header.Goals as goal
 
 pub returns : goal.returns
 unfolding header_text
-returns c = then (then (then (then c.put_text-a.ensures c.put_digits-b.ensures.wrote) c.put-d.ensures) c.put_digits-e.ensures.wrote) c.put.ensures
+returns c = wrote_to (c.put_text.ensures followed_by c.put_digits.ensures.wrote followed_by c.put.ensures followed_by c.put_digits-2.ensures.wrote followed_by c.put-2.ensures) (search rules)

@@ -2,15 +2,12 @@
 use native.Mathlib.Omega.{arith}
 use Rattle.occupancy.proofs.fill_track.Goals as goal
 
-pub right_ends-requires : goal.right_ends-requires
-right_ends-requires c = omega (arith, c.requires.fine_at.0.room)
-
 pub columns_of-columns-requires : goal.columns_of-columns-requires
 columns_of-columns-requires c =
-    let r = c.requires.fine_at.0.rule in
-    rw (c.right_ends.ensures, c.trailer_of.ensures.n_is) (record { rising = r.rises; ends_len_bound = r.few })
+    let r = c.requires.0.rule in
+    rw (c.right_ends.ensures, c.args.job.now.told.n_is) (record { rising = r.rises; ends_len_bound = r.few })
 
 pub fill-requires : goal.fill-requires
 fill-requires c =
-    let h = c.requires.fine_at.0.room in
-    record { facts = c.requires.facts; columns = rw (c.right_ends.ensures, c.trailer_of.ensures.n_is) at c.columns_of-columns.ensures; head_in_bounds = (omega arith, c.requires.fine_at.1, c.requires.fine_at.2) }
+    let h = c.requires.0.room in
+    record { columns = rw (c.right_ends.ensures, c.args.job.now.told.n_is) at c.columns_of-columns.ensures; head_in_bounds = (omega arith, c.requires.1) }

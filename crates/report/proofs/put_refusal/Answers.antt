@@ -1,9 +1,8 @@
 -- Five texts, one after the other. Assumes nothing.
-use borrow.Author.Rules.{rules}
-use Rattle.text.proofs.Writing.{then}
+use Rattle.text.proofs.Writing.{◌followed_by◌}
 use Rattle.report.specs.Report.{refused_text}
 use Rattle.report.proofs.put_refusal.Goals as goal
 
-pub returns : goal.returns
+pub returns-clause-wrote : goal.returns-clause-wrote
 unfolding refused_text
-returns c = record { wrote = then (then (then (then c.put_text-at.ensures (rw c.wide.ensures.0 at c.put_digits-at.ensures.wrote)) c.put-at.ensures) c.put_digits-at-2.ensures.wrote) c.put.ensures; upper_bound = search rules }
+returns-clause-wrote c = rw (c.from.ensures, c.number.ensures) at (c.put_text.ensures followed_by c.put_digits.ensures.wrote followed_by c.put.ensures followed_by c.put_digits-2.ensures.wrote followed_by c.put-2.ensures)

@@ -1,30 +1,19 @@
--- `route::route`: the reader's answer and the length of the buffer tell which row holds, if any; if none does, the verdict is that of `decide`. Assumes nothing.
-use mathlib.Core.Path.{refl, ◌∙◌}
+-- `route::route`: a row of the file decides, or it is read and the answer is that of `route_job`. Assumes nothing.
+use mathlib.Core.Path.{refl}
 use native.Mathlib.Omega.{arith}
-use Rattle.jobfile.proofs.Exact.{Told, told}
-use Rattle.route.proofs.Rows.{refused_file, refused_room, judged_answers}
+use Rattle.jobfile.proofs.Exact.{facts_file}
+use Rattle.std.proofs.lemmas.Result.{err_from_is_err_and}
+use Rattle.route.proofs.Rows.{refused_file, job_answers}
 use Rattle.route.proofs.route.Goals as goal
-use Rattle.route.proofs.route.Goals.{After-wide-m}
 
--- what the answer Job says of the file
-read : (c : After-wide-m) → Told c.args.file.now c.in-Job.columns c.in-Job.tracks c.in-Job.connections c.in-Job.limit
-read c = told c.args.file.now _ _ _ _ (rw c.in-Job.is at c.read_job.ensures)
+pub returns-in_err-read : goal.returns-in_err-read
+returns-in_err-read c =
+    let p = err_from_is_err_and c.from_residual.result c.from_residual.ensures.1 in
+    rw (p.1, p.2) (refused_file _ _ _ _ c.in_err-read.ensures, refl)
 
-pub returns-then-labels-m : goal.returns-then-labels-m
-returns-then-labels-m c =
-    let r = read (goal.at.returns-then-labels-m c).After-wide-m in
-    (refused_room _ _ r.facts (omega (arith, c.wide-m.ensures.0, r.m_is, c.if-labels-m.true)), refl)
-
-pub decide-requires : goal.decide-requires
-decide-requires c =
-    let r = read (goal.at.decide-requires c).After-wide-m in
-    (r.facts, r.t_is, c.wide-m.ensures.0 ∙ r.m_is, c.if-labels-m.false)
-
-pub returns-in-Refused : goal.returns-in-Refused
-returns-in-Refused c = (refused_file _ _ _ _ (rw c.in-Refused.is at c.read_job.ensures), refl)
-
-pub returns-else-labels-m : goal.returns-else-labels-m
-returns-else-labels-m c =
-    let r = read (goal.at.returns-else-labels-m c).After-wide-m in
-    let a = c.args in
-    judged_answers a.file.now a.budget a.labels.now c.decide.new.labels c.decide.result r.facts r.file (omega (arith, c.wide-m.ensures.0, r.m_is, c.if-labels-m.false)) c.decide.ensures
+pub returns : goal.returns
+returns c =
+    let r = c.in_ok-read in
+    let f = c.args.file.now in
+    let facts = rw r.ensures at r.field-0.facts in
+    job_answers f c.args.budget c.args.labels.now c.route_job.new.labels c.route_job.result facts (facts_file f facts (λ i. omega (arith, c.type_inv.file i))) (rw r.ensures at c.route_job.ensures)

@@ -1,45 +1,55 @@
 -- The reader's refusals come first, then the room, then the judge's; what the judge found legal is a routing, and its lines are written.
 -- Each way out is one of the laws by_file, by_room, by_judge, by_legal. Assumes nothing.
-use mathlib.Core.Path.{◌≡◌, refl, ◌∙◌}
+use mathlib.Core.Path.{refl}
 use Prim.Native.Nat.{◌*◌, ◌≤◌}
 use native.Mathlib.Omega.{arith}
 use lib.ListN.{length}
+use borrow.Author.Rules.{rules}
+use Rattle.std.proofs.lemmas.Result.{err_from_is_err_and}
+use Rattle.refusals.specs.Refusal.{number_of}
 use Rattle.jobfile.specs.Rows.{m_of}
-use Rattle.jobfile.proofs.Exact.{Told, told, job_numbers}
-use Rattle.judge.specs.declared.Judgement.TheVariants as judgement
-use Rattle.judge.specs.Judges.{Judges}
+use Rattle.jobfile.specs.Facts.{Facts}
+use Rattle.jobfile.proofs.Exact.{facts_file, job_numbers}
+use Rattle.text.proofs.Writing.{wrote_to}
 use Rattle.rows.specs.Rows.{row_room}
-use Rattle.rows.proofs.Laws.{by_file, by_room, by_judge, legal_routing, by_legal}
+use Rattle.rows.proofs.Laws.{by_file, by_room, by_judge, by_legal}
 use Rattle.rows.proofs.rows.Goals as goal
-use Rattle.rows.proofs.rows.Goals.{After-wide, Else-text-wide, In-Legal}
+use Rattle.rows.proofs.rows.Goals.{In_ok-job, Else-text-from}
 
-read : (w : After-wide) → Told w.args.file.now w.in-Job.columns w.in-Job.tracks w.in-Job.m w.in-Job.limit
-read w = told w.args.file.now w.in-Job.columns w.in-Job.tracks w.in-Job.m w.in-Job.limit (rw w.in-Job.is at w.read_job.ensures)
+facts : (w : In_ok-job) → Facts w.args.file.now
+facts w = rw w.in_ok-job.ensures at w.in_ok-job.job.facts
 
-count : (w : After-wide) → w.wide.result ≡ m_of w.args.file.now
-count w = w.wide.ensures.0 ∙ (told w.args.file.now w.in-Job.columns w.in-Job.tracks w.in-Job.m w.in-Job.limit (rw w.in-Job.is at w.read_job.ensures)).m_is
+room : (w : Else-text-from) → m_of w.args.file.now * row_room ≤ length w.args.text.now
+room w = let t = rw w.in_ok-job.ensures at w.in_ok-job.job.told.m_is in omega arith
 
-room : (w : Else-text-wide) → m_of w.args.file.now * row_room ≤ length w.args.text.now
-room w = omega (arith, w.wide.ensures.0 ∙ (told w.args.file.now w.in-Job.columns w.in-Job.tracks w.in-Job.m w.in-Job.limit (rw w.in-Job.is at w.read_job.ensures)).m_is, w.if-text-wide.false)
+pub returns-in_err-job : goal.returns-in_err-job
+returns-in_err-job c =
+    let p = err_from_is_err_and c.from_residual.result c.from_residual.ensures.1 in
+    let r = c.in_err-job.field-0.0 in
+    rw (p.1, p.2) (by_file c.args.file.now c.args.labels.now (length c.args.text.now) (number_of r.reason) r.place c.in_err-job.ensures, refl)
 
-legal : (c : In-Legal) → Judges c.args.file.now c.args.labels.now judgement.Legal
-legal c = rw c.in-Legal.is at c.judge.ensures
+pub returns-then-text-from : goal.returns-then-text-from
+returns-then-text-from c =
+    let t = rw c.in_ok-job.ensures at c.in_ok-job.job.told.m_is in
+    rw c.at.ensures (by_room c.args.file.now c.args.labels.now (length c.args.text.now) (facts (goal.at.returns-then-text-from c).In_ok-job) (omega arith), refl)
 
-pub returns-then-text-wide : goal.returns-then-text-wide
-returns-then-text-wide c = (by_room c.args.file.now c.args.labels.now (length c.args.text.now) (read (goal.at.returns-then-text-wide c).After-wide).facts (omega (arith, count (goal.at.returns-then-text-wide c).After-wide, c.if-text-wide.true)), refl)
+pub returns-in_err-judge_job : goal.returns-in_err-judge_job
+returns-in_err-judge_job c =
+    let p = err_from_is_err_and c.from_residual-in_err-judge_job.result c.from_residual-in_err-judge_job.ensures.1 in
+    let r = c.in_err-judge_job.field-0.0 in
+    rw (p.1, p.2) (by_judge c.args.file.now c.args.labels.now (length c.args.text.now) (room (goal.at.returns-in_err-judge_job c).Else-text-from) (number_of r.reason) r.place (rw c.in_ok-job.ensures at c.in_err-judge_job.ensures), refl)
 
 pub put_rows-requires : goal.put_rows-requires
 put_rows-requires c =
-    let l = legal_routing c.args.file.now c.args.labels.now (legal (goal.at.put_rows-requires c).In-Legal) in
-    ((read (goal.at.put_rows-requires c).After-wide).facts, l.1, omega (arith, room (goal.at.put_rows-requires c).Else-text-wide, l.1.whole, (job_numbers c.args.file.now).m_is))
+    let r = c.in_ok-judge_job.ensures in
+    let m = (job_numbers c.in_ok-job.job.bytes.now).m_is in
+    (r, omega (arith, r.whole, c.in_ok-job.job.told.m_is))
 
-pub returns-in-Legal : goal.returns-in-Legal
-returns-in-Legal c = by_legal c.args.file.now c.args.labels.now c.args.text.now c.put_rows.new.buf c.put_rows.result (legal (goal.at.returns-in-Legal c).In-Legal) (room (goal.at.returns-in-Legal c).Else-text-wide) c.put_rows.ensures.wrote
-
-pub returns-in-Refused-judge : goal.returns-in-Refused-judge
-returns-in-Refused-judge c = (by_judge c.args.file.now c.args.labels.now (length c.args.text.now) (room (goal.at.returns-in-Refused-judge c).Else-text-wide) c.in-Refused-judge.number c.in-Refused-judge.place (rw c.in-Refused-judge.is at c.judge.ensures), refl)
-
-pub returns-in-Refused : goal.returns-in-Refused
-returns-in-Refused c =
-    let a = c.args in
-    (by_file a.file.now a.labels.now (length a.text.now) c.in-Refused.n c.in-Refused.p (rw c.in-Refused.is at c.read_job.ensures), refl)
+pub returns : goal.returns
+returns c =
+    let f = c.args.file.now in
+    by_legal f c.args.labels.now c.args.text.now _ c.put_rows.new.out.at
+    (facts_file f (facts (goal.at.returns c).In_ok-job) (λ i. omega (arith, c.type_inv.file i)))
+    (rw c.in_ok-job.ensures at c.in_ok-judge_job.ensures)
+    (room (goal.at.returns c).Else-text-from)
+    (wrote_to (rw c.in_ok-job.ensures at c.put_rows.ensures.wrote) (search rules))

@@ -1,9 +1,9 @@
--- Every record is at least a byte, so that the place rises to the file's length, and the counts stay below it. Assumes nothing.
-use Rattle.std.proofs.Common.{length, ◌+◌, ◌-◌, ◌≤◌}
+-- Every record is at least a byte, so that the rest gets shorter, and with the counts it is never more than the file. Assumes nothing.
+use Rattle.std.proofs.Common.{length, ◌+◌, ◌≤◌}
 use Rattle.vectors.proofs.replay.Given as goal
 
-abbrev pub invariant-loop-at : goal.invariant-loop-at
-invariant-loop-at l = (l.at ≤ length l.bytes) × (l.agree + l.differ ≤ l.at)
+abbrev pub invariant-loop-rest : goal.invariant-loop-rest
+invariant-loop-rest l = l.agree + l.differ + length l.rest ≤ length l.bytes
 
-abbrev pub decreases-loop-at : goal.decreases-loop-at
-decreases-loop-at l = length l.bytes - l.at
+abbrev pub decreases-loop-rest : goal.decreases-loop-rest
+decreases-loop-rest l = length l.rest
