@@ -2,7 +2,6 @@
 #![tactic(auto)]
 
 use report::{MOST_INPUT, TEXT};
-use std::fs::File;
 use std::{env, io};
 
 fn say(rt: &HostRuntime, text: &[u8]) {
@@ -13,15 +12,10 @@ fn say(rt: &HostRuntime, text: &[u8]) {
 fn one(rt: &HostRuntime, path: &str) {
     say(rt, path.as_bytes());
     say(rt, b": ");
-    let mut file = match File::open(rt, path) {
-        Ok(file) => file,
-        Err(e) => {
-            let _ = eprintln!(rt; "{path}: {e}");
-            return;
-        }
-    };
     let mut bytes = [0u8; MOST_INPUT + 1];
-    let read = input::read_full(&mut file, &mut bytes);
+    let Some(read) = input::read_file(rt, path, &mut bytes) else {
+        return;
+    };
     let mut text = [0u8; TEXT];
     let said = report::report(&bytes[..read], &mut text);
     say(rt, &text[..said.length]);

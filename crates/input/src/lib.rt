@@ -1,10 +1,11 @@
 // Input whole into lent memory: what the programs read from a file or a descriptor, with no heap.
 #![tactic(auto)]
 
-ghost use Rattle.std.specs.Prelude.{◌<◌, MatchResult, IfOk, length, take};
+ghost use Rattle.std.specs.Prelude.{◌<◌, MatchResult, IfOk, IfSome, length, take};
 ghost use Rattle.std.specs.Io.KnownBytes.{Consumes, IsAtEnd};
 ghost use Rattle.io.specs.Counts.{IsPrefixLen};
 
+use std::fs::File;
 use std::io::Read;
 
 // A read failed; so many bytes were read before.
@@ -39,5 +40,18 @@ pub fn read_full<R: Read>(from: &mut R, buf: &mut [u8]) -> usize
     match read_whole(from, buf) {
         Ok(length) => length,
         Err(cut) => cut.length,
+    }
+}
+
+// A file by its name, into the front of the buffer; how many bytes were read. One that cannot be opened is told on standard error.
+pub fn read_file(rt: &HostRuntime, path: &str, buf: &mut [u8]) -> Option<usize>
+    ensures { IfSome result (λ n. IsPrefixLen n buf.new) }
+{
+    match File::open(rt, path) {
+        Ok(mut file) => Some(read_full(&mut file, buf)),
+        Err(e) => {
+            let _ = eprintln!(rt; "{path}: {e}");
+            None
+        }
     }
 }

@@ -1,5 +1,5 @@
 -- Stepping stones: the bytes of a file that is read, by their places: what code that walks the file needs. `facts_file` and `facts_of` (proofs/Exact.antt) say that
--- these are the facts of a job's file. Assumes nothing: these are definitions.
+-- these are the facts of a job's file. The last lines say that of each fact there is one proof at most. Assumes nothing.
 use Rattle.std.specs.Prelude.{◌≡◌, List, [], ◌∷◌, ℕ, ◌*◌, ◌+◌, ◌≤◌, ◌<◌, length, get_or}
 use Rattle.channel.specs.Limits.{most_tracks, Limits}
 use Rattle.std.specs.Coded.{Coded-set, coded_ℕ, ×_prop, le_prop}

@@ -10,7 +10,7 @@ pub struct Sizes {
     pub limit: u8,
 }
 
-// The lent bytes of a job's file. What is made of them by `JobFile::read` alone has the facts.
+// The lent bytes of a job's file, and what their trailer tells. The facts are the type's own: `JobFile::read` finds them.
 #[derive(Clone, Copy)]
 pub struct JobFile<'a> {
     pub bytes: &'a [u8],

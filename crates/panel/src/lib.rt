@@ -70,7 +70,7 @@ fn append(state: &mut [u8; STATE], m: usize, columns: Columns, mark: u8)
     state[2] = (m + 1) as u8;
 }
 
-// The connection at i taken out, and its loads.
+// The connection at i taken out, and its loads. Kept, here and in `replace`: m is the number that was counted once.
 fn remove(state: &mut [u8; STATE], m: usize, i: usize)
     requires { (m ≤ most_connections) × (i < m) }
     ensures { m ≡ m_in state.old → Relisted state.old (edited (drop (i + 1)) (list_in state.old)) state.new }

@@ -45,7 +45,7 @@ pub struct Spot {
 }
 
 // w and 2^w for t tracks: doubled from one bit on until t codes have room.
-// Kept: a `while`, for it ends by the doubled number and counts up to none.
+// Kept: a `while`, for it ends by the doubled number and counts up to none; t is asked to be within the limit, for no table is needed here.
 pub fn size_of(t: u8) -> Size
     requires { t ≤ most_tracks }
     ensures { Sized t result.w result.top }

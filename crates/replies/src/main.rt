@@ -9,7 +9,6 @@ use channel::MOST_CONNECTIONS;
 use lines::MOST_LINE;
 use refusals::Refusal;
 use reply::Answer;
-use std::fs::File;
 use std::{env, io};
 
 // Room for a job file and for a reply. What fills its room may be longer, and is not held.
@@ -156,13 +155,7 @@ fn read(rt: &HostRuntime, path: &str, into: &mut [u8]) -> usize
     ensures { IsPrefixLen result into.new }
 {
     let _ = print!(rt; "{path}");
-    match File::open(rt, path) {
-        Ok(mut file) => input::read_full(&mut file, into),
-        Err(e) => {
-            let _ = eprintln!(rt; "{path}: {e}");
-            0
-        }
-    }
+    input::read_file(rt, path, into).unwrap_or(0)
 }
 
 // A job and its reply, by their names.

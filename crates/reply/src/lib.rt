@@ -24,7 +24,7 @@ pub enum Answer {
 }
 
 // The labels of m codes; behind them nothing changes.
-// Kept: an index into the codes, since the loop over both slices by `zip` did not prove.
+// Kept: an index into the codes, since the loop over both slices by `zip` did not prove; m is how many of the array are codes.
 fn write_labels(codes: &[Code; MOST_CONNECTIONS], m: usize, labels: &mut [u8])
     requires m_le_most_connections { m ≤ most_connections }
     requires m_in_bounds { m ≤ length labels.old }

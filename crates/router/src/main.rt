@@ -80,6 +80,7 @@ fn is_asked(rt: &HostRuntime) -> bool {
     !matches!(&rt.arg(1, &mut word), Err(FillError::NotPresent))
 }
 
+// Kept: the status as a number, for it is told as a digit.
 // Tells the status, as a digit. Only where the program was started with an argument: so it never writes to a descriptor that somebody else opened.
 fn tell(rt: &HostRuntime, status: u8)
     requires { status ≤ 4 }

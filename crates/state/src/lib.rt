@@ -24,7 +24,6 @@ pub const STATE: usize = LOADS + COLUMNS;
 pub struct Span {
     pub from: usize,
     pub to: usize,
-    ghost there: { to ≤ most_columns + 1 },
 }
 
 // Which way a load is counted.
@@ -105,13 +104,14 @@ impl Piece {
 
     // The loads of the span's columns are turned where no other piece of its net is.
     pub fn turn_span(self, state: &mut [u8; STATE], span: Span, way: Way)
+        requires { span.to ≤ most_columns + 1 }
         ensures { Turned (λ x. in_span span.from span.to x && not (other_over state.old self.of self.at self.mark x)) way state.old state.new }
     {
         let first = span.from.max(1);
         if span.to <= first {
             return;
         }
-        // One on its own is beside no piece. This loop has no test, so a machine turns many loads at once.
+        // Kept: two loops. One on its own is beside no piece, and its loop has no test, so that a machine turns many loads at once.
         if net_of(self.mark) == 0 {
             for x in first..span.to {
                 state[LOADS + x] = way.turned(state[LOADS + x]);
@@ -130,7 +130,7 @@ impl Piece {
 
     // The same for the columns of one span that are not of another.
     pub fn turn_outside(self, state: &mut [u8; STATE], span: Span, out: Span, way: Way)
-        requires { out.from ≤ out.to }
+        requires { (span.to ≤ most_columns + 1) × (out.from ≤ out.to) }
         ensures { Turned (λ x. (in_span span.from span.to x && not (in_span out.from out.to x)) && not (other_over state.old self.of self.at self.mark x)) way state.old state.new }
     {
         let before = Span {

@@ -6,12 +6,20 @@ use refusals::Refusal;
 use route::Verdict;
 
 // An answer: kind 0 is a refusal with its number and its place as the value; other kinds are counted from 1 in the order of the entry's answers.
+// Kept: numbers for kinds, for a record has them.
 #[derive(Clone, Copy, PartialEq, Eq)]
 pub struct Given {
     pub kind: u8,
     pub number: u8,
     pub value: usize,
 }
+
+// What is answered where a record names no entry: a kind that no record has.
+pub const NONE: Given = Given {
+    kind: 255,
+    number: 0,
+    value: 0,
+};
 
 fn answered(kind: u8, value: usize) -> Given {
     Given {

@@ -6,9 +6,8 @@ mod entries;
 mod panels;
 mod record;
 
-use entries::Given;
+use entries::{Given, NONE};
 use record::{ROOM, after, before, byte, first, four};
-use std::fs::File;
 use std::{env, io};
 
 // The answer that a record has.
@@ -22,7 +21,7 @@ fn recorded(r: &[u8]) -> Given {
 
 // Whether the entry answers as the record says, and leaves the lent buffer as the record has it. A job's fourth string is the part with its connections.
 fn agrees_lent(r: &[u8], lent: &mut [u8]) -> bool {
-    if entries::asked(r, lent) != Some(recorded(r)) {
+    if entries::asked(r, lent).unwrap_or(NONE) != recorded(r) {
         return false;
     }
     if byte(r, 0) == 1 {
@@ -73,15 +72,10 @@ fn replay(bytes: &[u8]) -> Count {
 
 // One file.
 fn one(rt: &HostRuntime, path: &str) {
-    let mut file = match File::open(rt, path) {
-        Ok(file) => file,
-        Err(e) => {
-            let _ = eprintln!(rt; "{path}: {e}");
-            return;
-        }
-    };
     let mut bytes = [0u8; 65536];
-    let read = input::read_full(&mut file, &mut bytes);
+    let Some(read) = input::read_file(rt, path, &mut bytes) else {
+        return;
+    };
     let count = replay(&bytes[..read]);
     let _ = println!(rt; "{path} {} agree, {} differ", count.agree, count.differ);
 }

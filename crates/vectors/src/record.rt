@@ -22,7 +22,9 @@ pub fn byte(s: &[u8], at: usize) -> u8 {
     s.get(at).copied().unwrap_or(0)
 }
 
-pub fn two(s: &[u8], at: usize) -> usize {
+pub fn two(s: &[u8], at: usize) -> usize
+    ensures { result < 65536 }
+{
     usize::from(u16::from_le_bytes(bytes_at(s, at)))
 }
 
