@@ -12,7 +12,7 @@ use occupancy::Table;
 
 const MARKS: usize = MOST_TRACKS * MOST_SEGMENTS;
 
-// Kept: one flat array of the most marks that there can be. There is no heap, and a search copies it whole for each track that fits.
+// Kept: one flat array of the most marks that there can be, 0 for nobody, for an `Option` would take a second byte. There is no heap, and a search copies it whole for each track that fits.
 #[derive(Clone, Copy)]
 pub struct Marks(pub [u8; MARKS]);
 
@@ -40,6 +40,7 @@ impl Marks {
     }
 
     // Whether a connection of this owner, with this first and last segment on the track, fits there beside those that are marked.
+    // Kept: a first and a last of any size, here and in `take_run`. `Bounds` holds bytes, and would ask more.
     pub fn fits_run(&self, owner: u8, label: Label, first: usize, last: usize) -> bool
         requires { Among label.0 first last }
         ensures { result ≡ fits_run owner self.now.0 label.0 first last }

@@ -30,7 +30,7 @@ fn code_at(marks: &[u8; MOST_VALUES], v: usize, w: usize) -> Code
 }
 
 // The codes of m connections, w bits each.
-// Kept: no heap, so they stand at the front of an array for the most connections; and the marks come with no table, which would say that m is among them.
+// Kept: no heap, so they stand at the front of an array for the most connections; any w and m within the limits are taken, as they were.
 pub fn codes_of(marks: &[u8; MOST_VALUES], w: usize, m: usize) -> [Code; MOST_CONNECTIONS]
     requires w_le_most_bits { w ≤ most_bits }
     requires m_le_most_connections { m ≤ most_connections }

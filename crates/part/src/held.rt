@@ -4,7 +4,7 @@ ghost use Rattle.part.specs.Part.{part_of, PartRule};
 
 // Columns 1 to N, and the tracks as a table: how many of them, the first, are no performance tracks; where the right ends of each track start, and behind the
 // last of these the table's length; the right ends. The rule: N is within its limits, and each track keeps the rule of a track.
-// Kept: starts beside ends, and not a slice for each track, since the rule's laws (proofs/Table.antt) name a right end by its place behind a start.
+// Kept: starts beside ends, the form that document 01 names for a part: const tables with starts beside them.
 #[derive(Clone, Copy)]
 pub struct Part<'a> {
     pub columns: u8,

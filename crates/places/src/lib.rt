@@ -156,6 +156,7 @@ pub fn seek(table: &Table, n: usize) -> Result<Spot, usize>
 }
 
 // The code of a row's place n, from 0.
+// Kept: a count in the loop; `filter` and `nth` are no plainer, for what they find would still have to be there.
 pub fn code_in(table: &Table, row: Row, n: usize) -> Code
     requires limited { Limited row }
     requires n_in_bounds { let s = table.now in n < length (table_row s.runs s.tracks row (2 ^ bits_for s.tracks)) }

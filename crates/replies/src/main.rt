@@ -123,21 +123,19 @@ fn cuts(job: &[u8], text: &[u8], whole: &Replied) -> Tally
     requires { length text.now < 2 ^ 32 }
     ensures { result.refused + result.same + result.other ≡ length text.now + 1 }
 {
-    let mut refused: u64 = 0;
-    let mut same: u64 = 0;
-    let mut other: u64 = 0;
+    let mut tally = Tally {
+        refused: 0,
+        same: 0,
+        other: 0,
+    };
     for end in 0..text.len() + 1 {
         match beside(&ask(job, &text[..end]), whole) {
-            Cut::Refused => refused += 1,
-            Cut::Same => same += 1,
-            Cut::Other => other += 1,
+            Cut::Refused => tally.refused += 1,
+            Cut::Same => tally.same += 1,
+            Cut::Other => tally.other += 1,
         }
     }
-    Tally {
-        refused,
-        same,
-        other,
-    }
+    tally
 }
 
 // A job and a reply.
@@ -150,7 +148,7 @@ fn hold(rt: &HostRuntime, job: &[u8], text: &[u8])
     say_tally(rt, cuts(job, text, &whole));
 }
 
-// Says the name of the file and reads it; how many bytes it has.
+// Says the name of the file and reads it; how many bytes it has. One that cannot be read counts as empty.
 fn read(rt: &HostRuntime, path: &str, into: &mut [u8]) -> usize
     ensures { IsPrefixLen result into.new }
 {

@@ -30,6 +30,7 @@ enum Step {
     Spent,
 }
 
+// Kept: two functions that call one another, this one and the next, as document 01 has the search.
 // Places connection i + 1 and those after it beside what is marked. The labels are written once all are placed.
 #[cycle(place_connection_try_tracks_from)]
 fn place_connection(table: &Table, labels: &mut [u8], i: usize, marks: Marks, budget: u32) -> Step

@@ -9,7 +9,7 @@ use crate::tally::{Shut, Tally};
 use channel::MOST_VALUES;
 
 // The marks of the variables, and the first wrong position, if one was met.
-// Kept: a mark is a byte, 0 for not seen, 1 for plain, 2 for negated, since `model` reads the marks as bytes.
+// Kept: a mark is a byte, 0 for not seen, 1 for plain, 2 for negated, since `model::codes_of` takes a table of any bytes, as it did.
 #[derive(Clone, Copy)]
 pub struct Seen {
     pub marks: [u8; MOST_VALUES],

@@ -26,6 +26,7 @@ pub struct SilienvoAnswer {
 }
 
 // What a job file is: kind 1 with N, T, M, K and where its connections stand; kind 0 is a refusal with its number and place.
+// Kept: plain numbers, for C reads them.
 #[repr(C)]
 #[derive(Clone, Copy)]
 pub struct SilienvoJob {

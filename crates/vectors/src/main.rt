@@ -55,19 +55,21 @@ struct Count {
 // All records of a file.
 fn replay(bytes: &[u8]) -> Count {
     let mut rest = bytes;
-    let mut agree: usize = 0;
-    let mut differ: usize = 0;
+    let mut count = Count {
+        agree: 0,
+        differ: 0,
+    };
     // Kept: a `while`, for each record tells how long it is.
     while !rest.is_empty() {
         let (r, behind) = rest.split_at(record::size(rest));
         if agrees(r) {
-            agree += 1;
+            count.agree += 1;
         } else {
-            differ += 1;
+            count.differ += 1;
         }
         rest = behind;
     }
-    Count { agree, differ }
+    count
 }
 
 // One file.
