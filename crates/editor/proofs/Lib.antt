@@ -2,3 +2,4 @@ pub mod Core
 pub mod Records
 pub mod Answers
 pub mod Panels
+pub mod Determined

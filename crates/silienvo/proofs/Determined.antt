@@ -1,5 +1,4 @@
--- Any two answers that the contract of an export allows are equal, and so is what they leave of the lent buffer: stated of the contracts as the checker reads them.
--- `silienvo_p1_route` takes a slice of records, and the older kit generated no contract in that form: there it is stated of `EditSays`, which is the contract. Assumes nothing.
+-- Any two answers that the contract of an export allows are equal, and so is what they leave of the lent buffer: stated of the contracts as the checker reads them. Assumes nothing.
 use mathlib.Core.Path.{◌≡◌, sym, ap, ◌∙◌}
 use mathlib.Core.List.{List}
 use Prim.Native.Nat.{ℕ}
@@ -44,6 +43,9 @@ use Rattle.silienvo.proofs.silienvo_reply.Reads as reply-reads
 use Rattle.silienvo.specs.contracts.silienvo_p1_write as p1-write
 use Rattle.silienvo.proofs.silienvo_p1_write.Kinds as p1-write-kinds
 use Rattle.silienvo.proofs.silienvo_p1_write.Reads as p1-write-reads
+use Rattle.silienvo.specs.contracts.silienvo_p1_route as p1-route
+use Rattle.silienvo.proofs.silienvo_p1_route.Kinds as p1-route-kinds
+use Rattle.silienvo.proofs.silienvo_p1_route.Reads as p1-route-reads
 use Rattle.silienvo.specs.contracts.silienvo_panel_make as panel-make
 use Rattle.silienvo.proofs.silienvo_panel_make.Kinds as panel-make-kinds
 use Rattle.silienvo.proofs.silienvo_panel_make.Reads as panel-make-reads
@@ -94,8 +96,12 @@ pub one_p1_write : (κs : Lfts 2) (a : ArgsD p1-write.signature κs) (r r' : Res
     → p1-write-reads.Post κs a r x → p1-write-reads.Post κs a r' x' → (r ≡ r') × (x.1.1.0.now ≡ x'.1.1.0.now)
 one_p1_write κs a r r' x x' p q = let d = writes_one p1 a.0.now a.1.0 a.1.1.0.now p.answer q.answer _ _ p.says q.says in (p.is ∙ ap (answer_given length_given) d.0 ∙ sym q.is, d.1)
 
-pub one_p1_route : (cs : List Record) (k b : ℕ) (old : List ℕ) (r r' : SilienvoAnswer) (new new' : List ℕ) → EditSays cs k b old r new → EditSays cs k b old r' new' → (r ≡ r') × (new ≡ new')
-one_p1_route cs k b old r r' new new' p q = let d = edits_one cs k b old p.answer q.answer new new' p.says q.says in (p.is ∙ ap (answer_given verdict_given) d.0 ∙ sym q.is, d.1)
+pub edit_says_one : (cs : List Record) (k b : ℕ) (old : List ℕ) (r r' : SilienvoAnswer) (new new' : List ℕ) → EditSays cs k b old r new → EditSays cs k b old r' new' → (r ≡ r') × (new ≡ new')
+edit_says_one cs k b old r r' new new' p q = let d = edits_one cs k b old p.answer q.answer new new' p.says q.says in (p.is ∙ ap (answer_given verdict_given) d.0 ∙ sym q.is, d.1)
+
+pub one_p1_route : (κs : Lfts 2) (a : ArgsD p1-route.signature κs) (r r' : ResD p1-route.signature κs) (x x' : AtExit (ended_of 2 p1-route-kinds.ps p1-route-kinds.r) κs)
+    → p1-route-reads.Post κs a r x → p1-route-reads.Post κs a r' x' → (r ≡ r') × (x.1.1.1.0.now ≡ x'.1.1.1.0.now)
+one_p1_route κs a r r' x x' p q = edit_says_one a.0.now a.1.0 a.1.1.0 a.1.1.1.0.now r r' _ _ p q
 
 pub one_panel_make : (κs : Lfts 1) (a : ArgsD panel-make.signature κs) (r r' : ResD panel-make.signature κs) (x x' : AtExit (ended_of 1 panel-make-kinds.ps panel-make-kinds.r) κs)
     → panel-make-reads.Post κs a r x → panel-make-reads.Post κs a r' x' → (r ≡ r') × (x.0.now ≡ x'.0.now)
