@@ -60,7 +60,10 @@ pub fn rows(file: &[u8], labels: &[u8], text: &mut [u8]) -> Result<usize, Refusa
     if text.len() < usize::from(job.sizes.connections) * ROW {
         return Err(Reason::Room.at(0));
     }
-    judge::judge_job(&job, labels)?;
+    // Kept: no `?`, so that an edit can plant another place in the refusal and nothing else.
+    if let Err(refusal) = judge::judge_job(&job, labels) {
+        return Err(refusal);
+    }
     let mut out = Writer { buf: text, at: 0 };
     put_rows(&mut out, &job, labels);
     Ok(out.at)

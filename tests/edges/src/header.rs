@@ -1,4 +1,5 @@
-//! The header: the example over every function, compiled as C and as C++ and run; the stack that a call touches; what is said where the archive is missing.
+//! The header: the example over every function, compiled as C and as C++ and run; the stack that a call touches; what the archive asks for; what is said
+//! where it is missing.
 
 use crate::checks::Checks;
 use crate::shell::Shell;
@@ -61,6 +62,8 @@ pub fn run(shell: &Shell, checks: &mut Checks) -> io::Result<()> {
     let ended = shell.line(&format!("gcc -std=c11 -O2 -pthread {STRICT} tests/stack.c {ARCHIVE} -o stack && ./stack"))?;
     print!("{}", ended.text());
     checks.check(ended.status == Some(0), "no call touches more stack than the header says", || ended.shown());
+    let ended = shell.line(&format!("nm -u {ARCHIVE} | awk 'NF > 1 {{ print $2 }}'"))?;
+    checks.check(ended.text() == "memcpy\nmemset\n", "the archive asks for two functions of C", || ended.shown());
     let ended = shell.line("CARGO_TARGET_DIR=$PWD/cargo SILIENVO_LIBRARY=$PWD/nowhere cargo check --offline --quiet --package silienvo")?;
     let named = ended.err.contains("./build library");
     checks.check(ended.status != Some(0) && named, "a missing archive names the command that makes it", || ended.shown());

@@ -33,15 +33,14 @@ returns-then-text-from c =
     let t = rw c.in_ok-job.ensures at c.in_ok-job.job.told.m_is in
     rw c.at.ensures (by_room c.args.file.now c.args.labels.now (length c.args.text.now) (facts (goal.at.returns-then-text-from c).In_ok-job) (omega arith), refl)
 
-pub returns-in_err-judge_job : goal.returns-in_err-judge_job
-returns-in_err-judge_job c =
-    let p = err_from_is_err_and c.from_residual-in_err-judge_job.result c.from_residual-in_err-judge_job.ensures.1 in
-    let r = c.in_err-judge_job.field-0.0 in
-    rw (p.1, p.2) (by_judge c.args.file.now c.args.labels.now (length c.args.text.now) (room (goal.at.returns-in_err-judge_job c).Else-text-from) (number_of r.reason) r.place (rw c.in_ok-job.ensures at c.in_err-judge_job.ensures), refl)
+pub returns-in-Err : goal.returns-in-Err
+returns-in-Err c =
+    let r = c.in-Err.refusal in
+    (by_judge c.args.file.now c.args.labels.now (length c.args.text.now) (room (goal.at.returns-in-Err c).Else-text-from) (number_of r.reason) r.place (rw c.in_ok-job.ensures at c.in-Err.ensures), refl)
 
 pub put_rows-requires : goal.put_rows-requires
 put_rows-requires c =
-    let r = c.in_ok-judge_job.ensures in
+    let r = c.in_default.ensures in
     let m = (job_numbers c.in_ok-job.job.bytes.now).m_is in
     (r, omega (arith, r.whole, c.in_ok-job.job.told.m_is))
 
@@ -50,6 +49,6 @@ returns c =
     let f = c.args.file.now in
     by_legal f c.args.labels.now c.args.text.now _ c.put_rows.new.out.at
     (facts_file f (facts (goal.at.returns c).In_ok-job) (λ i. omega (arith, c.type_inv.file i)))
-    (rw c.in_ok-job.ensures at c.in_ok-judge_job.ensures)
+    (rw c.in_ok-job.ensures at c.in_default.ensures)
     (room (goal.at.returns c).Else-text-from)
     (wrote_to (rw c.in_ok-job.ensures at c.put_rows.ensures.wrote) (search rules))
