@@ -2,9 +2,11 @@
 use mathlib.Core.Path.{◌≡◌, refl, sym, ap, ◌∙◌}
 use mathlib.Core.Bool.{Bool, true, false, ◌&&◌, not}
 use mathlib.Core.List.{List, [], ◌∷◌, ◌++◌, append_assoc, append-nil}
+use mathlib.Core.Logic.{⊎_elim}
 use Prim.Native.Nat.{ℕ, zero, suc, ◌+◌, ◌-◌, ◌*◌, ◌^◌, ◌≤◌, ◌<◌, min}
 use native.Mathlib.Omega.{arith}
 use native.Mathlib.Decide.{dec_lt}
+use native.Mathlib.Nat.{eq-or-lt_of_le}
 use native.Mathlib.Numerals.{add-one}
 use lib.Dec.{leb}
 use lib.ListN.{length, length-append}
@@ -176,6 +178,10 @@ module _ (runs : List ℕ) (t : ℕ) (row : Row) where
       go : length (table_row runs t row n) ≡ n - t → Dec (n < t) → length (table_row runs t row (n + 1)) ≡ suc n - t
       go h (yes l) = omega (arith, next false (lt-leb t n l))
       go h (no l) = omega (arith, next true (le-leb t n (omega arith)))
+
+  -- what lies behind a whole row is not in it
+  pub row_inside : (c k n : ℕ) → c ≤ 2 ^ bits_for t → length (table_row runs t row c) + k ≡ n → n < length (table_row runs t row (2 ^ bits_for t)) → c < 2 ^ bits_for t
+  row_inside c k n l e h = ⊎_elim (λ (q : c ≡ 2 ^ bits_for t). let z = ap (λ x. length (table_row runs t row x)) q in absurd (omega arith)) (λ (q : c < 2 ^ bits_for t). q) (eq-or-lt_of_le l)
 
   -- the place of a code that is forbidden in a row: behind those of the rows before it, and of the codes below it
   pub place-split : (m : ℕ) → row.stage < m + 2 → row.i < m → (c : ℕ) → c < 2 ^ bits_for t → forbidden_in runs t row c ≡ true → (rest : List Place) × (places_of (table_grid runs t m) ≡ (places_before (table_grid runs t m) row ++ table_row runs t row c) ++ (place_at row.stage row.i c ∷ rest))

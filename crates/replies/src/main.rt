@@ -53,7 +53,10 @@ fn ask(job: &[u8], text: &[u8]) -> Replied {
 }
 
 fn say_refused(rt: &HostRuntime, refusal: Refusal) {
-    let _ = println!(rt; "refused {} {}", refusal.number(), refusal.place);
+    let _ = print!(rt; "refused");
+    let _ = print!(rt; " {}", refusal.number());
+    let _ = print!(rt; " {}", refusal.place);
+    let _ = println!(rt; "");
 }
 
 // Line n of the job's export; whether there is one.
@@ -100,11 +103,15 @@ fn say_answer(rt: &HostRuntime, whole: &Replied) {
 fn say_tally(rt: &HostRuntime, t: Tally)
     requires { t.refused + t.same + t.other < 2 ^ 64 }
 {
-    let all = t.refused + t.same + t.other;
-    let _ = println!(rt;
-        "cuts {all}: {} refused, {} same, {} other",
-        t.refused, t.same, t.other
-    );
+    let _ = print!(rt; "cuts");
+    let _ = print!(rt; " {}", t.refused + t.same + t.other);
+    let _ = print!(rt; ":");
+    let _ = print!(rt; " {}", t.refused);
+    let _ = print!(rt; " refused,");
+    let _ = print!(rt; " {}", t.same);
+    let _ = print!(rt; " same,");
+    let _ = print!(rt; " {}", t.other);
+    let _ = println!(rt; " other");
 }
 
 // A cut's answer beside the whole reply's.

@@ -53,7 +53,7 @@ module _ (f marks : List ℕ) (codes : List Code) (s : Table) (w top : ℕ) (siz
   tracks : s.tracks ≡ T j
   tracks = d.t_is ∙ (job_numbers f).t_is
 
-  connections : s.connections ≡ M j
+  pub connections : s.connections ≡ M j
   connections = d.m_is ∙ (job_numbers f).m_is
 
   code : (i : ℕ) → i < s.connections → code_for codes i ≡ code_at (set_in marks) (i * bits_for s.tracks + 1) (bits_for s.tracks)

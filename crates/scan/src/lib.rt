@@ -61,6 +61,11 @@ pub fn read(text: &[u8], variables: Variables) -> Reading
         if *b == b'\n' {
             match m.ended(text, i) {
                 Kind::Bad => m = Mode::Bad,
+                // Kept: an arm of its own, since most lines say no status, and at each of them `after` would be worked out.
+                Kind::Other => {
+                    m = Mode::Start;
+                    number += 1;
+                }
                 kind => {
                     m = Mode::Start;
                     number += 1;

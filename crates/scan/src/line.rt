@@ -115,6 +115,8 @@ fn number(negated: bool, v: usize, b: u8) -> Mode
 }
 
 // What the word of an `s` line comes to.
+// Kept out of line, for with it inside `ended` is called at the end of each line, and takes two to three times as long where lines are short.
+#[inline(never)]
 fn word(w: &[u8]) -> Kind
     ensures { result ≡ line_kind (status_word w.now) }
 {

@@ -92,7 +92,7 @@ module _ (b : ℕ) where
   unfolding up
   up_more h = ap (λ (c : Bool). cond c (b + 1) b) (lt-ltb b 255 h)
 
-  up_most : 255 ≤ b → up b ≡ b
+  pub up_most : 255 ≤ b → up b ≡ b
   unfolding up
   up_most h = ap (λ (c : Bool). cond c (b + 1) b) (le-ltb b 255 h)
 

@@ -96,7 +96,8 @@ impl Piece {
             let at = LIST + CONNECTION * i;
             if i != self.at && is_one_net(state[at + 2], self.mark) {
                 let y = usize::from(state[at]).max(left);
-                reach[y] = reach[y].max(state[at + 1]);
+                // Kept in this order: what is set down where both are equal does not wait for what was read.
+                reach[y] = state[at + 1].max(reach[y]);
             }
         }
         reach
@@ -119,10 +120,11 @@ impl Piece {
             return;
         }
         let reach = self.reaches(state, first);
-        let mut far = 0u8;
+        // Kept: `far` is no byte, since a byte would be widened in each turn, one step more from turn to turn.
+        let mut far = 0usize;
         for x in first..span.to {
-            far = far.max(reach[x]);
-            if usize::from(far) < x {
+            far = far.max(usize::from(reach[x]));
+            if far < x {
                 state[LOADS + x] = way.turned(state[LOADS + x]);
             }
         }

@@ -8,8 +8,8 @@ use Rattle.refusals.specs.Refusal.{number_of}
 use Rattle.jobfile.specs.Rows.{m_of, job_of}
 use Rattle.jobfile.specs.Reads.{FileOf}
 use Rattle.jobfile.proofs.Exact.{facts_file, job_numbers}
-use Rattle.report.specs.Report.{too_long, refused}
-use Rattle.report.proofs.Prints.{Found, routed_found, written_routed, written_alone}
+use Rattle.report.specs.Report.{program_budget, too_long, refused}
+use Rattle.report.proofs.Prints.{Begins, routed_begins, written_routed, written_alone}
 use Rattle.report.proofs.put_answer.Goals as goal
 use Rattle.report.proofs.put_answer.Goals.{In_ok-job, After-from-m}
 
@@ -17,8 +17,8 @@ file : (w : In_ok-job) → FileOf w.args.input.now (job_of w.args.input.now)
 file w = facts_file w.args.input.now (rw w.in_ok-job.ensures at w.in_ok-job.job.facts) (λ i. omega (arith, w.type_inv.input i))
 
 -- where a routing is found: it is in as many labels as there are connections
-found : (w : After-from-m) → Found w.in_ok-job.job.bytes.now w.route_job.new.labels w.in-Routed.field-0
-found w = let d = rw w.in-Routed.is at w.in_ok-verdict.ensures in routed_found w.in_ok-job.job.bytes.now _ w.route_job.new.labels w.in-Routed.field-0 d.1
+found : (w : After-from-m) → Begins w.in_ok-job.job.bytes.now w.route_job.new.labels program_budget w.in-Routed.field-0
+found w = let d = rw w.in-Routed.is at w.in_ok-verdict.ensures in routed_begins w.in_ok-job.job.bytes.now _ w.route_job.new.labels program_budget w.in-Routed.field-0 d.1
 
 count : (w : After-from-m) → w.from-m.result ≡ m_of w.in_ok-job.job.bytes.now
 count w = w.from-m.ensures ∙ w.in_ok-job.job.told.m_is

@@ -19,7 +19,7 @@ loop-i-preserved c =
     elim c.if-i-self.branch [
       | then-i-self+then-is_one_net w ↦
           subst (λ (q : List ℕ). SetDown s (l.i + 1) a.self.at a.left k q) (sym w.reach-is)
-          (reaches_more s l.i a.self.at a.left k l.reach l.invariant w.max-y.result w.max.result (omega arith) w.max.ensures (omega arith) w.if-i-self.true (sym w.is_one_net.ensures ∙ w.if-is_one_net.true))
+          (reaches_more s l.i a.self.at a.left k l.reach l.invariant w.max-y.result w.max.result (omega arith) (omega (arith, w.max.ensures)) (omega arith) w.if-i-self.true (sym w.is_one_net.ensures ∙ w.if-is_one_net.true))
       | else-i-self w ↦
           subst (λ (q : List ℕ). SetDown s (l.i + 1) a.self.at a.left k q) (sym w.reach-is)
           (reaches_skip s l.i a.self.at a.left k l.reach l.invariant (λ n. elim w.else-i-self.branch [

@@ -9,7 +9,7 @@ use Rattle.state.specs.Walks.{in_span, other_over, furthest, Turned}
 use Rattle.state.proofs.Walks.{span_says, span_is, span_behind, span_empty, span_next, span_first, span_none, furthest_more, turned_none, turned_same, turned_more}
 use Rattle.state.proofs.Covers.{over-furthest, alone_over}
 use Rattle.state.proofs.Free.{free, free_none, free_stays, free_turned}
-use Rattle.state.proofs.Piece.turn_span.Goals.{then-from-x, else-from-x}
+use Rattle.state.proofs.Piece.turn_span.Goals.{then-far-x, else-far-x}
 use Rattle.state.proofs.Piece.turn_span.Goals as goal
 
 pub returns-then-span-first : goal.returns-then-span-first
@@ -55,11 +55,11 @@ loop-x-2-preserved c =
     let far : c.max-far.result ≡ furthest r first (l.x + 1 - first) = omega (arith, furthest_more r first l.x (omega arith)) in
     record {
       reached = far;
-      turned = elim c.if-from-x.branch [
-        | then-from-x w ↦
+      turned = elim c.if-far-x.branch [
+        | then-far-x w ↦
             subst (λ (q : List ℕ). Turned (free r first (l.x + 1)) a.way a.state.now q) (sym w.state-is)
-            (free_turned r first l.x c.max-far.result (omega arith) (omega arith) far l.invariant.turned (omega arith) (omega arith) w.turned-then-from-x.result w.turned-then-from-x.ensures)
-        | else-from-x w ↦
+            (free_turned r first l.x c.max-far.result (omega arith) (omega arith) far l.invariant.turned (omega arith) (omega arith) w.turned-then-far-x.result w.turned-then-far-x.ensures)
+        | else-far-x w ↦
             subst (λ (q : List ℕ). Turned (free r first (l.x + 1)) a.way a.state.now q) (sym w.state-is)
             (free_stays r first l.x c.max-far.result (omega arith) (omega arith) far l.invariant.turned (omega arith))
       ];
