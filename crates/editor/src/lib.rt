@@ -51,7 +51,10 @@ pub fn route_p1(
     let mut bytes = [0; BYTES];
     for (i, c) in connections.iter().enumerate() {
         let at = CONNECTION * i;
-        bytes[at..at + CONNECTION].copy_from_slice(&[c.left, c.right, c.mark]);
+        // Kept: three stores. A `copy_from_slice` of three bytes asks at each whether what it copies lies in what it writes.
+        bytes[at] = c.left;
+        bytes[at + 1] = c.right;
+        bytes[at + 2] = c.mark;
     }
     route_list(
         &bytes[..CONNECTION * connections.len()],
