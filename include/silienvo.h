@@ -1,6 +1,7 @@
 /* Silienvo: a segmented channel router whose answers are proved.
  *
- * The archive target/staticlib/libsilienvo.a is made by `./build library`, for x86-64 Linux. It needs no other library. To compile against it:
+ * The archive target/staticlib/libsilienvo.a is made by `./build library`, for x86-64 Linux. It needs no other library, and of C
+ * only memcpy and memset. To compile against it:
  *
  *     cc -Iinclude examples/route.c target/staticlib/libsilienvo.a -o route-c
  *

@@ -52,6 +52,7 @@ fn ask(job: &[u8], text: &[u8]) -> Replied {
     Replied { answer, labels }
 }
 
+// Kept in pieces, here and in `say_tally`: on a pipe that does not wait each comes through or is lost by itself.
 fn say_refused(rt: &HostRuntime, refusal: Refusal) {
     let _ = print!(rt; "refused");
     let _ = print!(rt; " {}", refusal.number());

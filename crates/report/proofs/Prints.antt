@@ -51,16 +51,13 @@ routed_begins f l l' b n (q, d, e) =
 pub record Found (f labels : List ℕ) (b n : ℕ) : Type 0 where
   pub facts : Facts f
   pub file : FileOf f (job_of f)
-  pub few : m_of f ≤ length labels
-  pub long : length (take (m_of f) labels) ≡ M (job_of f)
-  pub decides : Decides (job_of f) b (first (take (m_of f) labels) n)
+  pub begins : Begins f labels b n
 
 module _ (f l l' : List ℕ) (b : ℕ) where
   pub routed_found : (n : ℕ) → Routes f b l (Ok (Routed n)) l' → Found f l' b n
   routed_found n (p, (j, g, d)) =
       let s : j ≡ job_of f = job_is f j g in
-      let t = routed_begins f l l' b n (subst (λ (x : Job). Judged x b l (Routed n) l') s d) in
-      record { facts = facts_of f j g; file = subst (FileOf f) s g; few = t.few; long = t.long; decides = t.decides }
+      record { facts = facts_of f j g; file = subst (FileOf f) s g; begins = routed_begins f l l' b n (subst (λ (x : Job). Judged x b l (Routed n) l') s d) }
 
   -- with room for the most labels a file is refused by its own rows
   pub refused_file : (r : Refusal) → length l ≡ most_connections → Routes f b l (Err r) l' → RefusedBy (file_rows f) r
